@@ -8,7 +8,7 @@ use Rattle.m11_scan.specs.Line.{SourceLine}
 pub one_longer : (source : List SourceLine) (line : SourceLine) → length (source ++ line ∷ []) ≡ length source + 1
 one_longer source line = length-append source (line ∷ [])
 
--- an empty latch stays empty after a call that is Ok
+-- an empty latch stays empty after a call that returns Ok
 pub keeps_none : {A : Type 0} (kept old : Option AsmFault) (came : Result A AsmFault) (value : A) → kept ≡ option_or old (result_err came)
     → old ≡ None → Ok value ≡ came → kept ≡ None
 keeps_none {A} kept old came value kept_is none same =

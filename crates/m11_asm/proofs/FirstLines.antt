@@ -35,7 +35,7 @@ FirstSoFar text faults initial here reader first =
 
 module _ {F : Type 0} (text : F → Option Text) (faults : F → ℕ) (initial here : List F) (reader : LineReading) (first : FirstState)
     (so : FirstSoFar text faults initial here reader first) where
-  -- `.END` has become live
+  -- if `.END` has become live, the pass is done with all lines that it reads
   pub first_ended : first.has_ended ≡ true → FirstTaken (pass_of text faults initial here) first
   first_ended ends = taken_to_end text faults initial here reader (λ source. FirstAfter source first) first.has_ended so ends
 
@@ -137,7 +137,7 @@ none_failed : {F : Type 0} (faults : F → ℕ) (feeds : List F) → NoneFailed 
 none_failed faults [] = tt
 none_failed faults (feed ∷ feeds) = (refl, none_failed faults feeds)
 
--- memory was refused before the first line
+-- if memory is refused before the first line, the pass ends with that fault, and reads nothing
 pub none_given : {F : Type 0} (text : F → Option Text) (faults : F → ℕ) (feeds : List F) (result : Result Symbols AsmFault)
     → IsErrAnd result (λ e. e ≡ fault.NoMemory) → GivesSymbols (pass_of text faults feeds feeds) result
 none_given text faults feeds (Ok symbols) is = absurd is
@@ -160,7 +160,7 @@ pub all_given : {F : Type 0} (pass : Pass F) (first : FirstState) → FirstTaken
 all_given pass first taken (Ok symbols) is ends = (first, taken, is)
 all_given pass first taken (Err stopped) is ends = absurd (no_fault first stopped taken.stands.goes_on (sym ends))
 
--- the live lines of the source
+-- a first pass that ends without a fault has read the source of these live lines
 module _ {F : Type 0} (pass : Pass F) (first : FirstState) (taken : FirstTaken pass first) where
   pub first_reads : ReadsFirst pass (Ok taken.stands.lines)
   first_reads = (

@@ -91,7 +91,7 @@ module _ (turn : TurnsSo) (source : List SourceLine) (old new : PassState) (live
     pub left_ends : came ≡ End → AllDone empty_map none_used (AreFactsOf facts) source new true
     left_ends is = ends_all empty_map none_used source old new (live_in live) (SaysLive live) law (AreFactsOf facts) some came turned is
 
-  -- a fault of the pass is returned
+  -- a fault that the pass returns is one with which the call may fail
   pub fails_all : (fault : AsmFault) (later : Facts) (result : Result Bool AsmFault) → Turns empty_map old new (live_in live) (SaysLive live) (Err fault)
       → IsErrAnd result (λ f. f ≡ fault) → PlacesLeft source new later result
   fails_all fault later (Ok ended) turned is = absurd is
@@ -104,7 +104,7 @@ module _ (turn : TurnsSo) (source : List SourceLine) (old new : PassState) (live
 
 -- ---- a line of the source
 
--- before the first one
+-- before the first line, the pass is done with an empty source
 pub begins : (pass_state : PassState) (counting : Counting) (facts : Facts) (fault : Option AsmFault)
     → ((map : Map) → PassAfter map counting [] [] pass_state) → counting ≡ none_used → pass_state.unfolder.stage ≡ start []
     → facts ≡ no_facts → fault ≡ None
@@ -120,7 +120,7 @@ module _ (source : List SourceLine) (line : SourceLine) (pass : SourcePassState)
   goes_so : old.has_ended ≡ false
   goes_so = sym (ap (λ (s : FirstState). s.has_ended) view_is) ∙ goes
 
-  -- there are too many lines
+  -- if the next line has no number, since there are too many lines, the call may fail with that fault
   pub line_refused : (came : AsmFault) (new : FirstState) (result : Result (Unit {0}) AsmFault)
       → IfErr numbers (λ f. (f ≡ TooMuchSource) × (read ≡ most_lines)) → Err came ≡ numbers → IsErrAnd result (λ f. f ≡ came)
       → FirstReadsLine source line old new result

@@ -56,7 +56,7 @@ module _ (map : Map) (table : Table) (given : UnfoldedLine) (placed : PlacedLine
   unlisted hidden =
       ap (λ (b : Bool). if b then all_to_listing (lines_of map table flags number given) else []) (listed_by ∙ hidden)
 
-  -- the items of the line, as the code collects them
+  -- the items that the code collects are those of the line
   items_so : (all : List Item) → all ≡ flat_map content_items contents ++ option_to_list placed.assigned → all ≡ items map table given
   items_so all are =
       are

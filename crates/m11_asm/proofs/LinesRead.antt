@@ -47,7 +47,7 @@ module _ {F : Type 0} (text : F → Option Text) (faults : F → ℕ) where
         feeds.so_far text faults initial here reader.source reader.bytes_left reader.lines_left lines so.has in
         record { reading = reading_of b.1; reads = (b.0, b.1, b.2, refl); more = b.3; are = b.4 }
 
-    -- there are at most as many lines as the limit
+    -- there are at most as many lines as the limit allows
     pub few_read : length lines ≤ most_lines
     few_read =
         let count = ap (λ (l : List SourceLine). length l) so.has.are ∙ lines_counted so.has.pieces in

@@ -45,7 +45,7 @@ module _ (map_ : Map) (counting : Counting) (source : List SourceLine) (lines : 
   given_to_end pass true is given = extents.GivesToEnd.AtEnd source stage live (sym ended ∙ is) given
   given_to_end pass false is given = extents.GivesToEnd.WithoutEnd source (unended_at is) given
 
--- if `.END` hasn't become live, nothing is left of the lines
+-- if `.END` hasn't become live, nothing of the lines is left to unfold
 pub unended_so : (map_ : Map) (counting : Counting) (Done : List NumberedLine → Type 0) (source : List SourceLine) (state : LineState)
     → (stands : LinesDone map_ counting Done source state) → state.has_ended ≡ false → Unended map_ counting source stands.lines
 unended_so map_ counting Done source state stands goes =
@@ -64,7 +64,7 @@ pub record IsAfterSoFar {F : Type 0} (text : F → Option Text) (faults : F → 
 module _ {F : Type 0} (text : F → Option Text) (faults : F → ℕ) (initial here : List F) (reader : LineReading) where
   module _ (After : List SourceLine → Type 0) (has_ended : Bool)
       (so : IsAfterSoFar text faults initial here reader After) where
-    -- `.END` has become live
+    -- if `.END` has become live, the pass has read the lines up to that point
     pub taken_to_end : has_ended ≡ true → SourceRead (pass_of text faults initial here) After has_ended
     taken_to_end ends =
         let b = begun text faults initial here reader so.source so.read in
@@ -79,7 +79,7 @@ module _ {F : Type 0} (text : F → Option Text) (faults : F → ℕ) (initial h
           given = subst Q (sym ends) (lines_given text faults initial here reader so.source so.read);
         }
 
-    -- or no line is left
+    -- if `.END` hasn't become live and the reader finds no further line, the pass has read all lines
     pub taken_wholly : has_ended ≡ false → (later : List F) (reader' : LineReading)
         → ReadsNext (position text faults here reader) (position text faults later reader') (Ok None)
         → SourceRead (pass_of text faults initial later) After has_ended
@@ -96,7 +96,7 @@ module _ {F : Type 0} (text : F → Option Text) (faults : F → ℕ) (initial h
           given = subst Q (sym goes) (given_all text faults initial here reader so.source so.read later reader' next);
         }
 
-  -- a fault of reading: the feeds were read no further than the fault
+  -- if reading fails, the feeds were read no further than the fault says
   pub given_to_fault : (map_ : Map) (counting : Counting) (source : List SourceLine) (lines : List NumberedLine)
       → SoFar text faults initial here reader source → Unended map_ counting source lines
       → (later : List F) (reader' : LineReading) (came : LineFault)

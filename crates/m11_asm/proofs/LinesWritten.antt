@@ -38,7 +38,7 @@ pieces_more map all one =
 -- ---- writes
 
 module _ (program : Program) where
-  -- what one more line writes
+  -- the writes of one more line, including the head of the object if it is the first
   abbrev pub next_writes : List NumberedLine → NumberedLine → List Write
   next_writes before one = head_before program before ++ line_writes program before one
 

@@ -32,7 +32,7 @@ pub writes_line : {A : Type 0} (a b : Outputs) (xs ys : Bytes) (result : Result 
     → Writes a b (to_report xs ∷ []) result → Writes a b (to_report ys ∷ []) result
 writes_line a b xs ys result is h = let P : Bytes → Type 0 = λ these. Writes a b (to_report these ∷ []) result in subst P is h
 
--- no writes at all
+-- an empty list of writes leaves the outputs as they are
 pub writes_nothing : (a : Outputs) (ws : List Write) → ws ≡ [] → Gains a a ws
 writes_nothing a ws none = let P : List Write → Type 0 = λ w. Gains a a w in subst P (sym none) (gains_nothing assembly a)
 
@@ -46,7 +46,7 @@ further_split location (one ∷ []) some = refl
 further_split location (one ∷ two ∷ []) some = refl
 further_split location (one ∷ two ∷ three ∷ items) some = refl
 
--- the rest, after the first three items and at the location after them
+-- the lines of further items are that of the first three, and then those of the rest, at the location after the first three
 pub further_rest : (location next : ℕ) (items shown left : List Item) → 1 ≤ length items → shown ≡ take 3 items → left ≡ drop 3 items
     → next ≡ location_after location shown → all_to_listing (further_lines location items)
     ≡ (to_report (further_line location items) ∷ []) ++ all_to_listing (further_lines next left)
@@ -71,7 +71,7 @@ pub further_none : (location : ℕ) (items : List Item) → length items ≡ 0 �
 further_none location [] none = refl
 further_none location (item ∷ items) none = absurd (omega (arith, none))
 
--- ---- a line for each thing of a list
+-- ---- a line for each item of a list
 
 module _ {X : Type 0} (line : X → Bytes) where
   abbrev pub lines_left : List X → List Write

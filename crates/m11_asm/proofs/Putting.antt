@@ -67,7 +67,7 @@ true_false is other = no (sym is ∙ other)
     no : true ≡ false → ⊥
     no e = cc
 
--- once some line is written, the head is written
+-- if some line was written before, the head isn't written again
 head_stays_by : (program : Program) (lines : List NumberedLine) → is_some_line lines ≡ true → head_before program lines ≡ []
 head_stays_by program [] is = absurd (true_false is refl)
 head_stays_by program (line ∷ lines) is = refl
@@ -150,7 +150,7 @@ module _ (program : Program) (lines : List NumberedLine) (one : NumberedLine) (p
       ∙ ap (λ (t : Option Quantity). bit_or own (end_flags (transfer_flags t) (action_in one.given.live.line.text placed.live.operation))) told
       ∙ ap (λ (d : Action). bit_or own (end_flags (transfer_flags program.transfer) d)) is.is_live.action_is
 
--- the lines in the listing of a line with these flags and this number
+-- the writes to the listing for a line with these flags and this number
 abbrev pub shown : Program → List NumberedLine → NumberedLine → ℕ → ℕ → List Write
 shown program lines one flags number = listing_writes program.map (table_at program.map lines) flags number one.given
 
@@ -176,7 +176,7 @@ module _ (program : Program) (lines : List NumberedLine) (one : NumberedLine) (a
       (stops_after assembly a b c (head_before program lines) (texts here ++ rest) stopped head
       (stops_before assembly b c (texts here) rest stopped (subst Q are stops)))
 
-  -- what comes after the texts
+  -- if the head and the texts are written, the writes to the listing and to the messages complete those of the line
   pub line_goes_on : {A : Type 0} (d : Outputs) (ps : List Piece) (flags number : ℕ) (text : Bytes) (result : Result A AsmFault) → ps ≡ here
       → flags ≡ flags_at program lines one → number ≡ one.number → text ≡ one.given.live.line.text
       → Gains a b (head_before program lines) → Gains b c (texts ps)
@@ -252,7 +252,7 @@ keeps_more program lines one old stands began emission listed new more flags (Ok
 
 -- ---- the end
 
--- the line added if there is no `.END`
+-- the writes for the line that is added if no `.END` became live
 abbrev added_to_both : ℕ → ℕ → ℕ → List Write
 added_to_both flags read counter = all_to_listing (added_lines flags read counter) ++ message_writes flags read []
 
@@ -267,7 +267,7 @@ one_added a b flags read counter has_end result is are h =
     writes_as a b (added_to_both flags read counter) (added_writes (record { read = read; has_end = has_end }) counter) result
     (ap (λ n. added_to_both n read counter) are ∙ sym (ap (λ (b : Bool). if b then [] else added_to_both flag_E read counter) is)) h
 
--- the symbol table, from the state of the writing
+-- the symbol table of these entries and this count is that of the state of the writing
 pub table_so : (writing : Writing) (symbols : List SymbolEntry) (sections : List SectionEntry) (count : ℕ)
     → symbols ≡ writing.symbols → sections ≡ writing.sections → count ≡ writing.flagged
     → all_to_listing (last_lines symbols sections count)

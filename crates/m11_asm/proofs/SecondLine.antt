@@ -48,7 +48,7 @@ module _ (program : Program) (source : List SourceLine) (line : SourceLine) (fir
     };
   }
 
-  -- there are too many lines
+  -- if the next line has no number, since there are too many lines, the call may fail with that fault
   pub line_refused : (numbers : Result ℕ AsmFault) (came : AsmFault) (new : SecondState) (result : Result (Unit {0}) AsmFault)
       → IfErr numbers (λ f. (f ≡ fault.TooMuchSource) × (read ≡ most_lines)) → Err came ≡ numbers → IsErrAnd result (λ f. f ≡ came)
       → SecondReadsLine program source line first (between before before (state_of map_ pass_state writing read has_ended stopped) new) result

@@ -41,7 +41,7 @@ SecondSoFar text faults initial here reader program old now second =
     IsAfterSoFar text faults initial here reader (λ source. SecondAfter program source old now second)
 
 module _ {F : Type 0} (text : F → Option Text) (faults : F → ℕ) (program : Program) (old : Outputs) where
-  -- memory was refused before the first line
+  -- if memory is refused before the first line, nothing is read or written
   none_begins : (feeds : List F) → PutsAll (pass_of text faults feeds feeds) program old old (Err fault.NoMemory)
   none_begins feeds =
       let none = reader_begins text faults feeds unread refl in
@@ -67,7 +67,7 @@ module _ {F : Type 0} (text : F → Option Text) (faults : F → ℕ) (program :
 
   module _ (initial here : List F) (reader : LineReading) (now : Outputs) (second : SecondState)
       (so : SecondSoFar text faults initial here reader program old now second) where
-    -- `.END` has become live
+    -- if `.END` has become live, the pass is done with all lines that it reads
     pub second_ended : second.has_ended ≡ true → SecondTaken (pass_of text faults initial here) program old now second
     second_ended ends =
         taken_to_end text faults initial here reader (λ source. SecondAfter program source old now second) second.has_ended so ends
@@ -208,7 +208,7 @@ module _ {F : Type 0} (text : F → Option Text) (faults : F → ℕ) (program :
         given_to_end program.map Definitions taken.source ends.lines ends.stage ends.live second.has_ended ends.ended ends.needs pass
         second.has_ended refl taken.given
 
-    -- an output or memory failed at the end
+    -- if an output failed or memory was refused at the end, the feeds were read as far as `GivesToStop` says
     gives_to_stop : (has_ended : Bool) → second.has_ended ≡ has_ended → HaveGiven pass taken.source has_ended
         → GivesToStop pass program.map Definitions
     gives_to_stop true is given = extents.GivesToStop.InLine taken.source ends.lines ends.stage ends.live given

@@ -48,7 +48,7 @@ module _ (turn : TurnsSo) (program : Program) (source : List SourceLine) (first 
   turned_so result turned =
       let P : Map → Type 0 = λ m. Turns m old new (live_in placed.live) (SaysPlaced m placed new.emission) result in subst P same turned
 
-  -- memory was refused after the writes of the lines so far and before those of the next one
+  -- the pass may stop between two writes after exactly the writes of the lines so far
   all_between : StopsBetween first now (written program some.0)
   all_between = record {
     done = written program some.0;
@@ -101,7 +101,7 @@ module _ (turn : TurnsSo) (program : Program) (source : List SourceLine) (first 
           },
         )
 
-        -- a write of the line failed, or memory was refused
+        -- if the writes of the next line end early, so do those of all lines up to that one
         stops_more : (stopped : AsmFault) → Stops now later (next_writes program some.0 one) stopped
             → Stops first later (written program (some.0 ++ one ∷ [])) stopped
         stops_more stopped stops =
@@ -130,7 +130,7 @@ module _ (turn : TurnsSo) (program : Program) (source : List SourceLine) (first 
             subst P (sym is)
             (stops_so stopped (stops_more stopped (writes one new.emission some.1.done.keeps here.is_said (sym contents_are) number_is)))
 
-  -- the source passes a limit, or memory is refused
+  -- the source exceeds a limit, or memory is refused
   module _ (limit : AsmFault) (turned : Turns map_ old new (live_in placed.live) (SaysPlaced map_ placed new.emission) (Err limit)) where
     refused : Refused program.map Definitions source some.0 limit
     refused =
@@ -146,7 +146,7 @@ module _ (turn : TurnsSo) (program : Program) (source : List SourceLine) (first 
     fails_so fault.TooMuchSource r = absurd r
     fails_so other r = record { lines = some.0; exceeds = r; gains = some.1.done.gains }
 
-    -- and that fault is returned
+    -- if that fault is returned, the call fails as `PlacesLeft` says
     pub fails_all : (later : Writing) (result : Result Bool AsmFault) → IsErrAnd result (λ f. f ≡ limit)
         → PlacesLeft program source first now new later result
     fails_all later (Ok ended) is = absurd is

@@ -17,7 +17,7 @@ use Rattle.m11_asm_passes.specs.declared.turns.Turn.TheVariants.{NeedLine, End, 
 use Rattle.m11_asm.specs.LinesDone.{GoesOn, LineState, LinesDone, LiveLinesDone, AllDone}
 use Rattle.m11_asm.proofs.Counting.{keeps_none, one_longer}
 
--- the contract of feeding a line
+-- the contract of a call that feeds a line
 abbrev pub Feeds : Type 0
 Feeds = (map : Map) (before : Counting) (source : List SourceLine) (lines : List NumberedLine) (line : SourceLine) (pass_state : PassState)
     → PassAfter map before source lines pass_state → pass_state.unfolder.stage.left ≡ [] → pass_state.unfolder.stage.has_ended ≡ false
@@ -87,7 +87,7 @@ module _ (map_ : Map) (counting : Counting) (Done : List NumberedLine → Type 0
       let R : Result ℕ AsmFault → Type 0 = λ r. IfOk r (λ n. n ≡ state.read + 1) in
       subst R (sym number_is) counts ∙ ap (λ (n : ℕ). n + 1) stands.read ∙ sym (one_longer source line)
 
-  -- it is read
+  -- feeding the line adds it to the source
   pub read_more : Feeds → state.has_ended ≡ false
       → LiveLinesDone map_ counting Done (source ++ line ∷ []) stands.lines (fed line state.pass_state)
   read_more feeds goes = record {
@@ -96,7 +96,7 @@ module _ (map_ : Map) (counting : Counting) (Done : List NumberedLine → Type 0
     done = stands.taken.done;
   }
 
-  -- the pass is done with the live lines that follow from it
+  -- if the pass is done with the live lines that follow from the line, it is done with the source up to that line
   pub stands_more : (Done' : List NumberedLine → Type 0) (pass_state : PassState) (number : ℕ) (ended : Bool) (outcome : Result Bool AsmFault)
       (kept before_fault : Option AsmFault) → number ≡ length (source ++ line ∷ []) → Ok ended ≡ outcome
       → AllDone map_ counting Done' (source ++ line ∷ []) pass_state ended

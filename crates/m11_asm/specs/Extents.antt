@@ -18,31 +18,32 @@ use Rattle.m11_asm.specs.Program.{Program, program_of}
 use Rattle.m11_asm.specs.declared.done.AsmDone.{AsmDone}
 use Rattle.m11_unfold_rules.specs.Stages.{Stage}
 
--- the feeds were read to the end of these lines, if `.END` became live in the last of them; otherwise to their ends, and these are all the
--- lines
+-- if the flag says that `.END` became live, the feeds were read to the end of these lines and no further; otherwise the feeds were read to
+-- their ends, and these are all their lines
 abbrev pub HaveGiven : {F : Type 0} → Pass F → List SourceLine → Bool → Type 0
 HaveGiven pass source true = GaveLines pass.text pass.old pass.new source
 HaveGiven pass source false = GaveAll pass.text pass.old pass.new source
 
--- ---- one pass, under a map and with a count of names
+-- ---- one pass, under a map and with the names counted before the first line
 
--- a pass read the lines up to the one in which `.END` became live, and nothing after that one; or it read all feeds to their ends
+-- a pass read the lines up to the one in which `.END` became live, and nothing after that line; or it read all feeds to their ends
 pub data GivesToEnd {F : Type 0} (pass : Pass F) (map : Map) (counting : Counting) (lines : List NumberedLine) : Type 0 where
   AtEnd : (source : List SourceLine) (stage : Stage) → PassLines map counting source lines stage → stage.has_ended ≡ true
       → GaveLines pass.text pass.old pass.new source → GivesToEnd pass map counting lines
   WithoutEnd : (source : List SourceLine) → Unended map counting source lines → GaveAll pass.text pass.old pass.new source
       → GivesToEnd pass map counting lines
 
--- a pass stopped after some live lines of the source, with nothing read after the line from which they follow; or it stopped after it
--- had read all feeds to their ends
+-- a pass stopped in one line of the source, after some live lines, and had read nothing after that line; or it stopped after it had read
+-- all feeds to their ends
 pub data GivesToStop {F : Type 0} (pass : Pass F) (map : Map) (counting : Counting) : Type 0 where
   InLine : (source : List SourceLine) (lines : List NumberedLine) (stage : Stage) → PassLines map counting source lines stage
       → GaveLines pass.text pass.old pass.new source → GivesToStop pass map counting
   AfterAll : (source : List SourceLine) (lines : List NumberedLine) → Unended map counting source lines
       → GaveAll pass.text pass.old pass.new source → GivesToStop pass map counting
 
--- how far a pass with this fault has read: up to the failure of a feed; up to the byte that exceeds a limit of reading; if memory was
--- refused or an output failed, as far as `GivesToStop` says; or up to the end of the line that exceeds a limit
+-- how far a pass that ended with this fault has read. `Read`: up to the failure of a feed. `TooMuchSource`: up to and including the byte
+-- that exceeds a limit of reading. `NoMemory` and `Write`: as far as `GivesToStop` says. Any other fault: up to the end of the line that
+-- exceeds a limit
 abbrev pub GivesToFault : {F : Type 0} → Pass F → Map → Counting → AsmFault → Type 0
 GivesToFault pass map counting fault.Read =
     (source : List SourceLine) × (lines : List NumberedLine) × Unended map counting source lines × GaveTill pass.text pass.old pass.new source
@@ -61,8 +62,8 @@ abbrev pub SecondGives : {F : Type 0} → Pass F → Program → Result AsmDone 
 SecondGives pass program (Ok done) = (lines : List NumberedLine) × GivesToEnd pass program.map Definitions lines
 SecondGives pass program (Err stopped) = GivesToFault pass program.map Definitions stopped
 
--- the first pass read to its end, and the second one as far as its result says; or the first pass read to its fault, and the second one
--- read nothing
+-- the first pass read as far as `GivesToEnd` says, and the second one as far as its result says; or the first pass read as far as its fault
+-- says, and the second one read nothing
 abbrev pub AsmGives : {F : Type 0} → Pass F → Pass F → Result AsmDone AsmFault → Type 0
 AsmGives first second (Ok done) =
     (lines : List NumberedLine) × GivesToEnd first empty_map none_used lines × SecondGives second (program_of (givens lines)) (Ok done)

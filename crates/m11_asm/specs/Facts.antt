@@ -25,7 +25,7 @@ no_facts = record { title = None; identification = None; weak = []; transfer = N
 abbrev pub each_once : List Name → List Name → List Name
 each_once names more = fold (insert_key is_same_name) names more
 
--- the facts and those of one more line; the table is the one before that line
+-- these facts together with those of one more line; the table is the one before that line
 abbrev pub with_line : Table → UnfoldedLine → Facts → Facts
 with_line table given facts = record {
   title = option_or (line_title given) facts.title;

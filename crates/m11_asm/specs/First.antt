@@ -24,26 +24,26 @@ pub record FirstState : Type 0 where
   pub has_ended : Bool
   pub fault : Option AsmFault
 
--- these are the facts of the live lines
+-- the facts are those of these live lines
 abbrev pub AreFactsOf : Facts → List NumberedLine → Type 0
 AreFactsOf facts lines = facts ≡ facts_of (givens lines)
 
 abbrev pub line_state : FirstState → LineState
 line_state state = record { pass_state = state.pass_state; read = state.read; has_ended = state.has_ended; fault = state.fault }
 
--- the pass is done with everything that follows from these lines of the source
+-- the pass has read these lines of the source, is done with all their live lines, and has no fault
 abbrev pub FirstAfter : List SourceLine → FirstState → Type 0
 FirstAfter source state = LinesDone empty_map none_used (AreFactsOf state.facts) source (line_state state)
 
--- one more line can be read: `.END` isn't live, and the limit on lines leaves room
+-- one more line can be read: `.END` hasn't become live, and the limit on lines isn't reached
 abbrev pub HasRoom : FirstState → Type 0
 HasRoom state = (state.has_ended ≡ false) × (state.read < most_lines)
 
--- no more lines can be read: `.END` isn't live, and the limit on lines is reached
+-- no more lines can be read: `.END` hasn't become live, and the limit on lines is reached
 abbrev pub IsFull : FirstState → Type 0
 IsFull state = (state.has_ended ≡ false) × (state.read ≡ most_lines)
 
--- the source has one line too many; or with its last line it exceeds another limit; or memory is refused
+-- the source has one line too many, its last line exceeds another limit, or memory is refused
 abbrev pub FirstFails : List SourceLine → FirstState → AsmFault → Type 0
 FirstFails source old TooMuchSource = IsFull old
 FirstFails source old fault = HasRoom old × (lines : List NumberedLine) × Refused empty_map none_used source lines fault
@@ -56,7 +56,7 @@ FirstReadsLine source line old new (Err fault) = FirstFails (source ++ line ∷ 
 
 -- ---- between the live lines of one line of the source
 
--- the pass is done with all the live lines that were left; or the source exceeds a limit, or memory is refused
+-- the pass is done with all remaining live lines of the source; or the source exceeds a limit, or memory is refused
 abbrev pub PlacesLeft : List SourceLine → PassState → Facts → Result Bool AsmFault → Type 0
 PlacesLeft source new facts (Ok has_ended) = AllDone empty_map none_used (AreFactsOf facts) source new has_ended
 PlacesLeft source new facts (Err fault) = (lines : List NumberedLine) × Refused empty_map none_used source lines fault

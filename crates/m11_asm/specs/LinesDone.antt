@@ -21,13 +21,13 @@ pub record GoesOn (fault : Option AsmFault) (has_ended : Bool) (pass : SourcePas
   pub goes_on : fault ≡ None → pass.fault ≡ None
   pub needs : fault ≡ None → has_ended ≡ false → pass.pass_state.unfolder.stage.left ≡ []
 
--- these are the live lines of a source, under a map and with a count of names, and the pass is done with them
+-- these are the live lines of a source, under a map and with the names counted before the first line, and the pass is done with them
 pub record LiveLinesDone (map : Map) (counting : Counting) (Done : List NumberedLine → Type 0) (source : List SourceLine) (lines : List NumberedLine)
     (pass_state : PassState) : Type 0 where
   pub stands : PassAfter map counting source lines pass_state
   pub done : Done lines
 
--- the pass is done with everything that follows from these lines of the source
+-- the pass has read these lines of the source, is done with all their live lines, and has no fault
 pub record LinesDone (map : Map) (counting : Counting) (Done : List NumberedLine → Type 0) (source : List SourceLine) (state : LineState)
     : Type 0 where
   pub lines : List NumberedLine

@@ -19,14 +19,14 @@ all_to_listing lines = each to_report lines
 
 -- ---- a line of the source, with the table before it
 
--- the listing lines of a source line; its items are at the location where the line emits them
+-- the listing lines of a source line; its first item is shown at the location where the line emits it
 abbrev pub lines_of : Map → Table → ℕ → ℕ → UnfoldedLine → List Bytes
 lines_of map table flags number given =
     listed_lines (flags_text flags) number (location table)
     (put_location (stands table given) (action given.is_own given.arguments given.live.line.text)) (items map table given) given.live.line.text
 
--- the writes to the listing for a source line: a flagged line is always listed; any other if the listing level after it isn't below 0, and
--- a line of an expansion only under `.LIST ME`
+-- the writes to the listing for a source line: a flagged line is always listed; any other line is listed if the listing level after it
+-- isn't below 0, and a line of an expansion needs `.LIST ME` as well
 unfoldable pub listing_writes : Map → Table → ℕ → ℕ → UnfoldedLine → List Write
 listing_writes map table flags number given =
     if is_listed (after_line map table given) given flags then all_to_listing (lines_of map table flags number given) else []

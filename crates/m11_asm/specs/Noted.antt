@@ -8,7 +8,7 @@ use Rattle.m11_asm_rules.specs.Meanings.{empty_map}
 use Rattle.m11_asm_rules.specs.Tables.{Table}
 use Rattle.m11_asm.specs.Facts.{Facts, each_once}
 
--- the facts and those of an action; a transfer address is evaluated with this table
+-- these facts together with those of an action; a transfer address is evaluated with this table
 abbrev pub with_action : Table → Action → Facts → Facts
 with_action table (Entitle name) facts = record facts { title = Some name }
 with_action table (Identify name) facts = record facts { identification = option_or name facts.identification }

@@ -18,9 +18,9 @@ use Rattle.m11_asm.specs.Program.{Program, program_of}
 use Rattle.m11_asm.specs.Written.{EndOfSource, flagged_count, program_writes, written}
 use Rattle.m11_unfold_rules.specs.Stages.{Stage}
 
--- ---- the live lines of a source, under a map and with a count of names
+-- ---- the live lines of a source, under a map and with the names counted before the first line
 
--- all lines were read, nothing is left of them, and `.END` didn't become live
+-- all lines were read, nothing of them is left to unfold, and `.END` didn't become live
 pub record Unended (map : Map) (counting : Counting) (source : List SourceLine) (lines : List NumberedLine) : Type 0 where
   pub stage : Stage
   pub live : PassLines map counting source lines stage
@@ -34,7 +34,7 @@ pub data Ends (map : Map) (counting : Counting) (reading : Reading) (lines : Lis
   WithoutEnd : Unended map counting reading.lines lines → reading.fault ≡ None
       → ended ≡ record { read = length reading.lines; has_end = false } → Ends map counting reading lines ended
 
--- a source is refused after these live lines: where reading stops, or at the first limit that is exceeded
+-- a source is refused after these live lines: where reading exceeds a limit, or at the first limit that a line exceeds
 pub data Refuses (map : Map) (counting : Counting) (reading : Reading) (lines : List NumberedLine) (stopped : AsmFault) : Type 0 where
   AtReading : (fault : LineFault) → reading.fault ≡ Some fault → stopped ≡ of_lines fault → Unended map counting reading.lines lines
       → Refuses map counting reading lines stopped
@@ -49,7 +49,7 @@ pub data Outcome : Type 0 where
   -- everything that is written, and the count of flagged lines
   Assembled : List Write → ℕ → Outcome
 
--- the outcome of two readings, which are equal if the source stays the same
+-- an assembly whose two passes have these readings has this outcome; the readings are equal if the source stays the same
 pub data HasOutcome (first second : Reading) : Outcome → Type 0 where
   -- if the first pass is refused, nothing is written
   FirstRefuses : (lines : List NumberedLine) (fault : AsmFault) → Refuses empty_map none_used first lines fault

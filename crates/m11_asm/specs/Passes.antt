@@ -30,8 +30,9 @@ ReadsTill pass lines = FailReading pass.text pass.faults pass.old pass.new (reco
 
 -- ---- the first pass
 
--- the first pass, depending on its result: the live lines of the source; or a feed failed before `.END` became live; or memory was refused;
--- or the source is refused; no output can fail, since nothing is written
+-- the first pass has this result: the live lines of the source; `Read` if a feed failed before `.END` became live; `NoMemory`, which is
+-- possible only if no feed failed; or the limit at which the source is refused. The result is never `Write`, since the first pass writes
+-- nothing
 abbrev pub ReadsFirst : {F : Type 0} → Pass F → Result (List NumberedLine) AsmFault → Type 0
 ReadsFirst pass (Ok lines) = (reading : Reading) × Reads pass reading × (ended : EndOfSource) × Ends empty_map none_used reading lines ended
 ReadsFirst pass (Err fault.Read) =
@@ -67,8 +68,8 @@ pub record WritesAll (program : Program) (reading : Reading) (old new : Outputs)
   pub count : done.flagged ≡ flagged_count program lines ended.has_end
   pub fit : AllFit (object_contents program.rows (pieces_in program.map lines))
 
--- the second pass, depending on its result: everything is written; or a feed failed or the source is refused, after exactly the writes of
--- the live lines before that; or an output failed in a write, or memory was refused between two, and nothing more was written
+-- the second pass has this result. If it succeeds, everything is written. If a feed failed or the source is refused, exactly the writes of
+-- the live lines before that were made. If an output failed in a write, or memory was refused between two writes, nothing more was written
 abbrev pub ReadsSecond : {F : Type 0} → Pass F → Program → Outputs → Outputs → Result AsmDone AsmFault → Type 0
 ReadsSecond pass program old new (Ok done) = (reading : Reading) × Reads pass reading × WritesAll program reading old new done
 ReadsSecond pass program old new (Err fault.Read) =

@@ -28,7 +28,8 @@ pub record Program : Type 0 where
   -- the names and the sections of the symbol table
   pub symbols : List SymbolEntry
   pub sections : List SectionEntry
-  -- the value of the expression after `.END`, if there is one
+  -- the value that the expression of the live `.END` has in the first pass; None if no `.END` became live, or if the live one has no
+  -- expression
   pub transfer : Option Quantity
 
 -- ---- from the table after the last line, the names that lines use, and the other facts of the lines

@@ -30,7 +30,7 @@ pub record SecondState : Type 0 where
   pub has_ended : Bool
   pub fault : Option AsmFault
 
--- exactly the writes of the live lines lead from the first outputs to these, and the state of the writing is the one after those lines
+-- since the first outputs, exactly the writes of these live lines were made, and the state of the writing is the one after these lines
 pub record Wrote (program : Program) (first now : Outputs) (writing : Writing) (lines : List NumberedLine) : Type 0 where
   pub keeps : WritingAfter program lines writing
   pub gains : Gains first now (written program lines)
@@ -38,7 +38,7 @@ pub record Wrote (program : Program) (first now : Outputs) (writing : Writing) (
 abbrev pub line_state : SecondState → LineState
 line_state state = record { pass_state = state.pass_state; read = state.read; has_ended = state.has_ended; fault = state.fault }
 
--- the pass is done with everything that follows from these lines of the source
+-- the pass has read these lines of the source, is done with all their live lines, and has no fault
 pub record SecondAfter (program : Program) (source : List SourceLine) (first now : Outputs) (state : SecondState) : Type 0 where
   pub map_is : state.map ≡ program.map
   pub stands : LinesDone program.map Definitions (Wrote program first now state.writing) source (line_state state)
@@ -93,7 +93,7 @@ SecondReadsLine program source line first call (Err stopped) =
 
 -- ---- between the live lines of one line of the source
 
--- the pass is done with all the live lines that were left; or it fails as `SecondFails` says
+-- the pass is done with all remaining live lines of the source; or it fails as `SecondFails` says
 abbrev pub PlacesLeft : Program → List SourceLine → Outputs → Outputs → PassState → Writing → Result Bool AsmFault → Type 0
 PlacesLeft program source first now pass_state writing (Ok has_ended) =
     AllDone program.map Definitions (Wrote program first now writing) source pass_state has_ended

@@ -14,7 +14,7 @@ use Rattle.m11_asm.specs.declared.done.AsmDone.{AsmDone}
 abbrev pub SecondTaken : {F : Type 0} → Pass F → Program → Outputs → Outputs → SecondState → Type 0
 SecondTaken pass program old new second = SourceRead pass (λ source. SecondAfter program source old new second) second.has_ended
 
--- what is written, and how far the feeds were read
+-- the second pass has this result: it writes what `ReadsSecond` says, and reads its feeds as far as `SecondGives` says
 abbrev pub PutsAll : {F : Type 0} → Pass F → Program → Outputs → Outputs → Result AsmDone AsmFault → Type 0
 PutsAll pass program old new result = ReadsSecond pass program old new result × SecondGives pass program result
 

@@ -15,7 +15,7 @@ use Rattle.m11_asm.specs.Values.{symbol_value}
 abbrev pub definition_of : DirectoryFacts → Name → Option Definition
 definition_of facts name = last_definition (Named name) facts.table.definitions
 
--- `G` marks a name that lines made global, or that another object has to define
+-- whether `G` marks the name: lines made it global, or another object has to define it
 abbrev pub is_global : DirectoryFacts → Name → Bool
 is_global facts name = has_name name facts.table.globals || has_name name (references facts)
 

@@ -10,8 +10,9 @@ use Rattle.m11_asm_rules.specs.Sections.{number_of}
 use Rattle.m11_scan_expressions.specs.declared.kinds.Kind.{Kind}
 use Rattle.m11_scan_expressions.specs.declared.kinds.Kind.TheVariants as kind
 
--- a known value of this kind, as it is shown: a location with the number of its section, which the table always has, a register, or an
--- absolute number; no definition has the kind of a reference, since a name without a definition is unknown in an assignment
+-- a known value of this kind, as the symbol table shows it: a location with the number of its section, a register, or an absolute number.
+-- The table always has that section. No definition has the kind of a reference, since a name without a definition is unknown in an
+-- assignment
 abbrev pub known_value : List Section → ℕ → Kind → SymbolValue
 known_value sections number (kind.Section name) = elim (number_of name sections) [
   | Some section ↦ shown.Relocatable number section
@@ -20,7 +21,7 @@ known_value sections number (kind.Section name) = elim (number_of name sections)
 known_value sections number kind.Register = shown.Register number
 known_value sections number _ = shown.Absolute number
 
--- the value that the symbol table shows for a symbol, from its last definition, if there is one
+-- the value that the symbol table shows for a name, from its last definition; unknown without a definition
 abbrev pub symbol_value : List Section → Option Definition → SymbolValue
 symbol_value sections None = shown.Unknown
 symbol_value sections (Some definition) = elim (definition.standing) [

@@ -10,8 +10,8 @@ use Rattle.m11_asm_passes.specs.Lines.{NumberedLine}
 use Rattle.m11_asm.specs.Program.{Program}
 use Rattle.m11_asm.specs.Written.{flagged_in, is_flagged, flag_E, pieces_in}
 
--- from the first pass, the rows of the directory, the transfer address and the entries of the symbol table; the open text; whether the
--- head of the object is written; and the count of flagged lines
+-- from the first pass, the rows of the directory, the transfer address and the entries of the symbol table; the open text; whether the head
+-- of the object has been written; and the count of flagged lines
 pub record Writing : Type 0 where
   pub rows : List DirectoryRow
   pub transfer : Option Quantity
@@ -42,7 +42,7 @@ abbrev pub is_some_line : List NumberedLine → Bool
 is_some_line [] = false
 is_some_line (line ∷ lines) = true
 
--- the state of the writing after these lines
+-- this is the state of the writing after these lines
 pub record WritingAfter (program : Program) (lines : List NumberedLine) (writing : Writing) : Type 0 where
   pub rows : writing.rows ≡ program.rows
   pub transfer : writing.transfer ≡ program.transfer

@@ -50,7 +50,8 @@ pieces_in map lines = flat_map (λ line. line.pieces) (placement map (givens lin
 
 -- ---- a line, with the lines before it
 
--- the head is written before the writes of the first line, or at the end if there is no line
+-- the writes of the head of the object if no line comes before; otherwise none. So the head is written before the first line, or at the end
+-- if there are no lines
 abbrev pub head_before : Program → List NumberedLine → List Write
 head_before program lines = elim lines [ [] ↦ content_writes (head_contents program.rows) | _ ↦ [] ]
 
@@ -60,7 +61,7 @@ flags_at program before line =
     bit_or (all_flags program.map (table_at program.map before) line.given) (end_flags (transfer_flags program.transfer)
     (action line.given.is_own line.given.arguments line.given.live.line.text))
 
--- what a line writes: the texts that its pieces close, then its listing lines, and then its message
+-- what a line writes: the records of the texts that its pieces close, then its listing lines, and then its message
 unfoldable pub line_writes : Program → List NumberedLine → NumberedLine → List Write
 line_writes program before line =
     content_writes (records_closed_by (pieces_in program.map before) (pieces program.map (table_at program.map before) line.given))
@@ -72,16 +73,16 @@ written_after program before [] = []
 written_after program before (line ∷ lines) =
     (head_before program before ++ line_writes program before line) ++ written_after program (before ++ line ∷ []) lines
 
--- the writes of the first live lines of a source, including the head of the object
+-- the writes of the first live lines of a source, with the head of the object before those of the first line; none without lines
 unfoldable pub written : Program → List NumberedLine → List Write
 written program lines = written_after program [] lines
 
--- the flags of some lines that come after others
+-- the flags that each line of the second list reports, after the lines of the first list
 abbrev pub flags_after : Program → List NumberedLine → List NumberedLine → List ℕ
 flags_after program before [] = []
 flags_after program before (line ∷ lines) = flags_at program before line ∷ flags_after program (before ++ line ∷ []) lines
 
--- how many of some lines are flagged
+-- how many of these lines are flagged
 unfoldable pub flagged_in : Program → List NumberedLine → ℕ
 flagged_in program lines = count_by is_flagged (flags_after program [] lines)
 
@@ -96,19 +97,21 @@ pub record EndOfSource : Type 0 where
 abbrev pub flagged_count : Program → List NumberedLine → Bool → ℕ
 flagged_count program lines has_end = flagged_in program lines + (if has_end then 0 else 1)
 
--- if no `.END` became live, an empty line is added, flagged E: a line of the listing with the location counter, and a message
+-- the writes for the empty line, flagged E, that is added if no `.END` became live: a line of the listing with the location counter, and a
+-- message; none if `.END` became live
 abbrev pub added_writes : EndOfSource → ℕ → List Write
 added_writes ended counter =
     if ended.has_end then []
     else all_to_listing (added_lines flag_E ended.read counter) ++ message_writes flag_E ended.read []
 
--- the last text and the end of the module; the symbol table; a flush of object and listing; the count of flagged lines
+-- the last writes of any assembly, in order: the last text and the end of the module; the symbol table and the count of flagged lines, in
+-- the listing; a flush of object and listing; and the count again, in the messages
 abbrev pub closing_writes : List Piece → List SymbolEntry → List SectionEntry → ℕ → List Write
 closing_writes pieces symbols sections count =
     content_writes (last_records pieces ++ EndOfModule ∷ [])
     ++ (all_to_listing (last_lines symbols sections count) ++ (flushes ++ to_messages (count_line count) ∷ []))
 
--- the location counter after some lines
+-- the location counter after these lines
 abbrev pub last_location : Program → List NumberedLine → ℕ
 last_location program lines = location (table_at program.map lines)
 

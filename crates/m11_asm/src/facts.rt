@@ -1,4 +1,4 @@
-//! Facts about the module that the lines of a source state besides names and locations. (MACRO-11 Language Reference Manual, ".TITLE
+//! Facts that the lines of a source state about the module, apart from names and locations. (MACRO-11 Language Reference Manual, ".TITLE
 //! directive", ".IDENT directive", ".WEAK directive" and ".END directive".)
 
 ghost use Rattle.std.specs.Prelude.{◌≡◌, IfOk, option_map};
@@ -27,7 +27,7 @@ use m11_scan_expressions::{Expr, Value};
 use m11_scan_statements::Span;
 use std::alloc::{AllocError, Global};
 use std::marker::Model;
-/// Facts about the module that the lines of a source state besides names and locations.
+/// Facts that the lines of a source state about the module, apart from names and locations.
 #[derive(Drop)]
 pub struct Facts {
     title: Option<Name>,
@@ -85,14 +85,15 @@ impl Facts {
         &self.weak
     }
 
-    /// The value of the expression after `.END`, if there is one.
+    /// The value that the expression of the live `.END` has in the first pass; None if no `.END` became live, or if the live one has no
+    /// expression.
     pub fn transfer(&self) -> Option<Value>
         ensures { option_map quantity result ≡ self.now.transfer }
     {
         self.transfer
     }
 
-    /// Adds the facts of a live line; the table is the one after it. Error: memory may be refused.
+    /// Adds the facts of a live line. `table` is the table after that line. Error: memory may be refused.
     pub fn add_line(&mut self, live: &LiveLine, table: &Table) -> Result<(), AllocError>
         ensures { IfOk result (λ _. (before : LineTable) (given : UnfoldedLine) → IsLive given live.now
             → table.now ≡ after_line empty_map before given → self.new ≡ with_line before given self.old) }
@@ -126,7 +127,7 @@ impl Facts {
         }
     }
 
-    // Adds the facts of a directive, with the names of its list. Error: memory may be refused.
+    // Adds the facts of a directive. `names` is its list of names. Error: memory may be refused.
     fn add_setting(
         &mut self,
         line: &Line,

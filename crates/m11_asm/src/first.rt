@@ -31,7 +31,7 @@ pub struct First {
     read: u16,
     has_ended: bool,
     fault: Latch<AsmFault>,
-    // Room for a live line, reused for each.
+    // Room for a live line, reused for each one.
     live: LiveLine,
 }
 
@@ -78,8 +78,8 @@ impl First {
     /// Reads the next line of the source, unless `.END` has become live.
     ///
     /// Errors: `TooMuchSource` at a line past the 65,535th; `Unfold` at a limit of unfolding; `TooManySymbols`; `TooManySections`; and
-    /// `NoMemory`. Of several limits, the first one exceeded counts, in the order of the lines, and within a line in the order of labels,
-    /// operator and arguments.
+    /// `NoMemory`. If several limits are exceeded, the error is that of the first one, in the order of the lines, and within a line in this
+    /// order: the limits on its labels, those on unfolding its operator, and those on what the operator uses and changes.
     pub fn line(&mut self, line: &Line) -> Result<(), AsmFault>
         ensures takes { (source : List SourceLine) → FirstAfter source self.old → FirstReadsLine source line.now self.old self.new result }
         ensures again { (fault : AsmFault) → self.old.fault ≡ Some fault → (result ≡ Err fault) × (self.new ≡ self.old) }
@@ -126,8 +126,8 @@ impl First {
     }
 }
 
-// Applies the live lines that are left to the pass, adds their facts, and returns whether `.END` became live. `live` has room for one live
-// line at a time. Errors: those of `First::line` except `TooMuchSource`.
+// Carries out the remaining live lines of the line fed last, adds their facts, and returns whether `.END` became live. `live` has room for
+// one live line at a time. Errors: those of `First::line` except `TooMuchSource`.
 fn place_left(
     pass: &mut SourcePass,
     facts: &mut Facts,

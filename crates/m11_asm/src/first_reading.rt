@@ -12,9 +12,10 @@ use m11_base::{Feed, Seed};
 use m11_scan::LineReader;
 use std::alloc::Global;
 
-/// Reads the sources up to the line in which `.END` becomes live, or to the end of the last one, and returns the result of the first pass.
+/// Reads the sources up to the line in which `.END` becomes live, or to the end of the last source, and returns the result of the first
+/// pass.
 ///
-/// Errors: `Read` of a feed, `TooMuchSource` of reading, and those of `First::line`.
+/// Errors: `Read` if a feed fails, `TooMuchSource` if the sources are too long, and those of `First::line`.
 pub fn read_first<F: Feed>(alloc: Global, seed: Seed, feeds: &mut [F]) -> Result<Symbols, AsmFault>
     ensures { GivesSymbols (pass_of F.text F.faults feeds.old feeds.new) result }
 {

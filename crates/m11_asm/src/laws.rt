@@ -10,8 +10,8 @@ ghost use Rattle.m11_base_writes.specs.Outputs.{AreFlushed, Outputs, Write};
 ghost use Rattle.m11_scan_line_laws.specs.Readings.{Reading};
 ghost use Rattle.m11_asm.specs.declared.done.AsmDone.{AsmDone};
 
-/// A successful run writes exactly the outcome of its two readings, leaves nothing held back in object and listing, and counts the
-/// flagged lines of that outcome.
+/// A successful run writes exactly the outcome of its two readings, leaves nothing held back in object and listing, and returns the count
+/// of flagged lines of that outcome.
 pub fn a_run_writes_the_outcome_of_its_sources<F>()
     ensures { (first second : Pass F) (old new : Outputs) (done : AsmDone) → AsmRuns first second old new (Ok done)
         → (one : Reading) × (other : Reading) × Reads first one × Reads second other

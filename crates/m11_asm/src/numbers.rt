@@ -6,7 +6,7 @@ ghost use Rattle.m11_scan.specs.Lines.{most_lines};
 
 use m11_asm_faults::AsmFault;
 
-/// The most lines of all sources together.
+/// The greatest number of lines in all sources together.
 const MOST_LINES: u16 = 65535;
 
 /// The number of the next line after `read` lines, from 1 to 65,535.

@@ -27,11 +27,11 @@ use m11_obj::PieceContent;
 use m11_scan::ErrorFlags;
 use std::alloc::AllocError;
 
-/// Writes the listing lines of a placed line, if there is a listing. A flagged line is always listed; any other if the listing level after
-/// it isn't below 0, and a line of an expansion only under `.LIST ME`. `number` is the number of the source line, `contents` is what the
-/// line emits, and `items` is room for the items to show.
+/// Writes the listing lines of a placed line, if there is a listing. A flagged line is always listed. Any other line is listed if the
+/// listing level after it isn't below 0; a line of an expansion needs `.LIST ME` as well. `number` is the number of the source line,
+/// `contents` is what the line emits, and `items` is a buffer for the items to show.
 ///
-/// Errors: `Write` of the listing, and `NoMemory` before the first line.
+/// Errors: `Write` of the listing, and `NoMemory` before anything is written.
 pub fn put_placed<T: Sink>(
     items: &mut Vec<Item>,
     line: &PlacedLine,
@@ -73,7 +73,7 @@ fn is_listed(line: &PlacedLine, flags: ErrorFlags) -> bool
     !flags.is_empty() || line.is_shown
 }
 
-// Replaces the items by those of a line: those that it emits, and the one that it assigns, if any. Error: memory may be refused.
+// Replaces the items with those of a line: the items that it emits, and then the one that it assigns, if any. Error: memory may be refused.
 fn gather(
     items: &mut Vec<Item>,
     contents: &[PieceContent],

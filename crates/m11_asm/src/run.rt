@@ -1,4 +1,4 @@
-//! The run: sources in, object, listing and messages out.
+//! A run of the assembler: it reads sources, and writes an object, a listing and messages.
 
 ghost use Rattle.std.specs.Prelude.{◌≡◌};
 ghost use Rattle.m11_asm.specs.Extents.{AsmGives};
@@ -16,17 +16,17 @@ use std::alloc::Global;
 /// Assembles sources, one after another as one text, into an object module, an optional listing, and messages. Each source is read
 /// twice, and only one line of it is in memory at a time.
 ///
-/// `first` and `second` have the same sources for the two passes. Only the second pass writes. No byte after the line of a live `.END`
-/// is consumed, from its feed or a later one, by `next` or by `pass`; without `.END` all feeds are read to their ends.
+/// `first` and `second` supply the same sources, one to each pass. Only the second pass writes. No byte after the line of a live `.END` is
+/// consumed, from its feed or a later one, by `Feed::next` or by `Feed::pass`. Without a live `.END` all feeds are read to their ends.
 ///
-/// Faults: `Read` and `TooMuchSource` of reading, and `TooManySymbols`, `TooManySections` and `Unfold` of a line. The first fault in the
-/// order of the input ends the run, and nothing more is read. If the first pass is refused, nothing is written. The second pass exceeds a
-/// limit only if it reads other bytes than the first one. If one of these faults ends the second pass, the outputs of the live lines before
-/// the fault are written. The second pass may also end with `Write`, after which nothing more is written. `NoMemory` wherever memory is
-/// refused.
+/// Faults: `Read` if a feed fails; `TooMuchSource` if the sources are too long; and `TooManySymbols`, `TooManySections` and `Unfold` if a
+/// line exceeds a limit. The first fault in the order of the input ends the run, and nothing more is read. If the first pass fails, nothing
+/// is written. The second pass exceeds a limit only if it reads other bytes than the first one. If one of these faults ends the second
+/// pass, the outputs of the live lines before the fault are written. The second pass may also end with `Write`, after which nothing more is
+/// written. Either pass ends with `NoMemory` if memory is refused, the second one only between two writes.
 ///
-/// An output may hold bytes back until it is flushed. Object and listing are flushed before the count of flagged lines is written.
-/// After a successful run they hold nothing back, and a failing flush is `Write` of that output.
+/// An output may hold bytes back until it is flushed. Object and listing are flushed before the count of flagged lines is written to the
+/// messages. After a successful run they hold nothing back. A flush that fails ends the run with `Write` of that output.
 pub fn asm_run<F: Feed, S: Sink, T: Sink, U: Sink>(
     alloc: Global,
     first: &mut [F],

@@ -25,9 +25,9 @@ use m11_scan::Line;
 use std::alloc::{AllocError, Global};
 use std::marker::Model;
 
-/// The second pass of a source, with the result of the first one. The source's lines are fed one after another, up to the one in
-/// which `.END` becomes live. The outputs of each line are written before the next line. Of the object only the directory and the
-/// open text are in memory. After a fault each call returns it again and writes nothing.
+/// The second pass of a source, with the result of the first one. The source's lines are fed one after another, up to the one in which
+/// `.END` becomes live. The outputs of each line are written before the next line is read. Of the object only the directory and the open
+/// text are in memory. After a fault each call returns it again and writes nothing.
 #[derive(Drop)]
 pub struct Second {
     // The first pass, whose table is the map of this one.
@@ -38,7 +38,7 @@ pub struct Second {
     read: u16,
     has_ended: bool,
     fault: Latch<AsmFault>,
-    // Room for a placed line, reused for each.
+    // Room for a placed line, reused for each one.
     placed: PlacedLine,
 }
 
@@ -99,8 +99,9 @@ impl Second {
     /// Reads the next line of the source and writes what follows from it, unless `.END` has become live.
     ///
     /// Errors: `TooMuchSource` at a line past the 65,535th; `Unfold` at a limit of unfolding; `TooManySymbols`; `TooManySections`; `Write`
-    /// of an output, after which nothing more is written; and `NoMemory` between two writes. Of several limits, the first one exceeded
-    /// counts, in the order of the lines, and within a line in the order of labels, operator and arguments.
+    /// of an output, after which nothing more is written; and `NoMemory` between two writes. If several limits are exceeded, the error is
+    /// that of the first one, in the order of the lines, and within a line in this order: the limits on its labels, those on unfolding its
+    /// operator, and those on what the operator uses and changes.
     pub fn line<S: Sink, T: Sink, U: Sink>(
         &mut self,
         line: &Line,
@@ -150,7 +151,8 @@ impl Second {
         self.has_ended
     }
 
-    /// Writes what follows the last line, as `Writing::end` does, and returns the count of flagged lines.
+    /// Writes what follows the last line: the rest of the object, the line that is added if `.END` didn't become live, the symbol table,
+    /// and the count of flagged lines. Flushes object and listing before the count is written to the messages, and returns that count.
     ///
     /// Errors: the fault that ended the pass, if there was one; `Write` of an output, after which nothing more is written; and
     /// `NoMemory` between two writes.
@@ -198,10 +200,10 @@ impl Second {
     }
 }
 
-// Places the live lines that are left, writes their outputs, and returns whether `.END` became live. `number` is the number of the
-// last line read, and `placed` has room for one line at a time.
+// Places the remaining live lines of the line fed last, writes their outputs, and returns whether `.END` became live. `number` is the
+// number of the line fed last, and `placed` has room for one live line at a time.
 //
-// Errors: those of the pass, `Write` of an output, and `NoMemory` between two writes.
+// Errors: those of `Second::line` except `TooMuchSource`.
 fn place_left<S: Sink, T: Sink, U: Sink>(
     pass: &mut SourcePass,
     map: &Map<'_>,

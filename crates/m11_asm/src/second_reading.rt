@@ -15,10 +15,10 @@ use m11_base::{Feed, Sink};
 use m11_scan::LineReader;
 use std::alloc::Global;
 
-/// Reads the sources again, up to the line in which `.END` becomes live or to the end of the last one, writes their outputs, and returns
+/// Reads the sources again, up to the line in which `.END` becomes live or to the end of the last source, writes their outputs, and returns
 /// the count of flagged lines.
 ///
-/// Errors: `Read` of a feed, `TooMuchSource` of reading, and those of `Second::line` and `Second::end`.
+/// Errors: `Read` if a feed fails, `TooMuchSource` if the sources are too long, and those of `Second::line` and `Second::end`.
 pub fn read_second<F: Feed, S: Sink, T: Sink, U: Sink>(
     alloc: Global,
     feeds: &mut [F],

@@ -16,7 +16,7 @@ pub fn each_name_stands_once_and_in_order()
     ordered_names_are_in_order();
 }
 
-/// The last lines of a listing with a label, assigned names, a register and undefined names are those worked by hand.
+/// The last lines of the listing of a source with a label, assigned names, a register and undefined names are those worked by hand.
 pub fn a_symbol_table_is_as_worked()
     ensures { found_lines ≡ worked_lines }
 {}

@@ -65,7 +65,7 @@ fn push_symbols(
     Ok(())
 }
 
-// The names of two lists, each once, in the order of their two words. Error: memory may be refused.
+// The names of two lists, each once, in the order of their two RADIX-50 words. Error: memory may be refused.
 fn joined_names(alloc: Global, names: &[Name], registers: &[Name]) -> Result<Vec<Name>, AllocError>
     ensures { IfOk result (λ list. list.items ≡ ordered (names.now ++ registers.now)) }
 {
@@ -74,7 +74,8 @@ fn joined_names(alloc: Global, names: &[Name], registers: &[Name]) -> Result<Vec
     ordered_names(alloc, list.as_slice())
 }
 
-/// The entries of the names and registers that lines use, in the order of the two words of their names. Error: memory may be refused.
+/// The entries of the names and registers that lines use, in the order of the two RADIX-50 words of each name. Error: memory may be
+/// refused.
 #[tactic(auto, unfolding(crate::specs::Symbols::symbol_entries))]
 pub fn symbol_entries(
     alloc: Global,

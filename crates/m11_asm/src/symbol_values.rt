@@ -9,7 +9,8 @@ use m11_asm_rules::{Definition, Standing, Table};
 use m11_base::Name;
 use m11_scan_expressions::Kind;
 
-// The value of a location, with the number of its section; an absolute number if the table doesn't have the section, which never happens.
+// The value of the location `number` in the section `name`, with the number of that section; an absolute number if the table doesn't have
+// the section, which never happens.
 fn location_value(table: &Table, number: u16, name: Name) -> SymbolValue
     ensures { result ≡ spec.known_value table.now.sections number (kind.Section name) }
 {

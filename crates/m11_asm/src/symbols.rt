@@ -34,7 +34,7 @@ impl Symbols {
         }
     }
 
-    /// The pass after the last line with its table, the names that the lines use, and the other facts of the lines.
+    /// The state of the pass after the last line, the names that the lines use, and the other facts of the lines.
     pub fn into_parts(self) -> (Pass, UsedSymbols, Facts)
         ensures pass { result.0 ≡ self.table }
         ensures used_symbols { result.1 ≡ self.used_names }

@@ -65,9 +65,9 @@ pub struct Writing {
     items: Vec<Item>,
     // The open text of the object.
     text: OpenText,
-    // Whether the head of the object is written.
+    // Whether the head of the object has been written.
     has_begun: bool,
-    // How many lines are flagged. The count stops at the greatest number of 32 bits.
+    // How many lines are flagged. The count stops at the greatest 32-bit number.
     flagged: u32,
 }
 
@@ -118,9 +118,9 @@ impl Writing {
         })
     }
 
-    /// Writes the outputs of a placed line: the head of the object before the first line, the texts that the line's pieces close, the
-    /// line's listing lines, and its message if it is flagged. `number` is the number of the source line, and `contents` is what the line
-    /// emits.
+    /// Writes the outputs of a placed line: the head of the object before the first line, the records of the texts that the line's pieces
+    /// close, the line's listing lines, and its message if it is flagged. `number` is the number of the source line, and `contents` is what
+    /// the line emits.
     ///
     /// Errors: `Write` of an output, and `NoMemory` between two writes.
     pub fn put_line<S: Sink, T: Sink, U: Sink>(
@@ -171,7 +171,8 @@ impl Writing {
         Ok(())
     }
 
-    // Adds the pieces of a line to the open text, and writes the texts that they close. Errors: `Write` of the object, and `NoMemory`.
+    // Adds the pieces of a line to the open text, and writes the records of the texts that they close. Errors: `Write` of the object, and
+    // `NoMemory`.
     fn put_pieces<S: Sink>(
         &mut self,
         line: &PlacedLine,
@@ -243,9 +244,10 @@ impl Writing {
         Ok(())
     }
 
-    /// Writes what follows all lines: the head, if it isn't written yet; the added line, if `.END` didn't become live; the last text, the
-    /// end of the module and the symbol table. Then it flushes object and listing and writes the count of flagged lines, which it also
-    /// returns. `read` is the number of lines read, and `location` the location counter after them.
+    /// Writes what follows all lines: the head, if it isn't written yet; the added line, if `.END` didn't become live; the last text and
+    /// the end of the module; and the symbol table, with the count of flagged lines after it. Then it flushes object and listing, writes
+    /// the count to the messages, and returns it. `read` is the number of lines read, and `location` is the location counter after the last
+    /// line.
     ///
     /// Errors: `Write` of an output, and `NoMemory` between two writes.
     pub fn end<S: Sink, T: Sink, U: Sink>(
@@ -274,8 +276,8 @@ impl Writing {
         self.close(object, listing, messages)
     }
 
-    // Writes the line that is added if `.END` didn't become live: an empty one, flagged E, in the listing and in the messages. Fault:
-    // `Write` of one of them.
+    // Writes the line that is added if `.END` didn't become live: an empty line, flagged E, in the listing and in the messages. Fault:
+    // `Write` of the listing or of the messages.
     fn add_line<T: Sink, U: Sink>(
         &mut self,
         has_ended: bool,
@@ -297,8 +299,8 @@ impl Writing {
         self.report(ErrorFlags::E, read, &[], messages)
     }
 
-    // Writes the last text, the end of the module, the symbol table and the count, and flushes object and listing before the count. Errors
-    // are those of `end`.
+    // Writes the last text, the end of the module and the symbol table, flushes object and listing, and then writes the count of flagged
+    // lines to the messages. Errors are those of `end`.
     fn close<S: Sink, T: Sink, U: Sink>(
         &mut self,
         object: &mut S,
@@ -325,7 +327,8 @@ impl Writing {
     }
 }
 
-// Flushes object and listing, and then writes the count, so that no count is reported for incomplete files. Fault: `Write` of an output.
+// Flushes object and listing, and then writes the count to the messages, so that they report no count for incomplete files. Fault: `Write`
+// of an output.
 fn flush_and_count<S: Sink, T: Sink, U: Sink>(
     object: &mut S,
     listing: &mut Option<T>,

@@ -1,4 +1,4 @@
--- What names say of an expression, by what they were asked.
+-- The value of an expression under the names of a line, all of them or the firm ones alone.
 use Rattle.std.proofs.Common.{◌≡◌, ℕ, ap, ◌∙◌}
 use Rattle.m11_scan_expressions.specs.Tokens.{Expression}
 use Rattle.m11_scan_expressions.specs.Quantities.{Quantity}

@@ -1,4 +1,4 @@
--- Names of texts whose characters outside RADIX-50 count as blanks.
+-- Names made from texts, in which a character without a RADIX-50 code counts as a blank.
 use Rattle.std.proofs.Common.{◌≡◌, ℕ, ◌+◌, ◌*◌, List, [], ◌∷◌, Option, Some, None, unwrap_or, refl, ap, ◌∙◌}
 use Rattle.std.specs.Prelude.{take}
 use Rattle.m11_base.specs.Rad50.{alphabet, code_of, name_of}

@@ -13,15 +13,15 @@ use Rattle.m11_asm_rules.specs.Psects.{with_attributes}
 none_first : 1 ≤ 0 → ⊥
 none_first some = omega (arith, some)
 
--- ---- what names are read as, one after the other
+-- ---- the names of a list, read one after the other
 
--- the texts of names
+-- the texts of the names in a list are that of the first one, if it is a name, and those of the others
 pub texts_first : (line : Bytes) (name : Option Span) (rest : List (Option Span))
     → texts_of line (name ∷ rest) ≡ texts_of line (name ∷ []) ++ texts_of line rest
 texts_first line (Some name) rest = refl
 texts_first line None rest = refl
 
--- what each text is, if it is something
+-- the results of reading each text, without the texts for which there is no result
 module _ {A : Type 0} (read : Bytes → Option A) (line : Bytes) where
   abbrev pub read_of : List (Option Span) → List A
   read_of names = flat_map (λ text. option_to_list (read text)) (texts_of line names)
@@ -34,7 +34,7 @@ module _ {A : Type 0} (read : Bytes → Option A) (line : Bytes) where
   read_first (Some name) rest = one_read (read _) (read_of rest)
   read_first None rest = refl
 
--- ---- whether something is so of one of them
+-- ---- whether a test holds of one of the results
 
 module _ {A : Type 0} (is : A → Bool) (read : List (Option Span) → List A)
     (first : (name : Option Span) (rest : List (Option Span)) → read (name ∷ rest) ≡ read (name ∷ []) ++ read rest) where
@@ -42,7 +42,7 @@ module _ {A : Type 0} (is : A → Bool) (read : List (Option Span) → List A)
       → list_any is (read (name ∷ rest)) ≡ (list_any is (read (name ∷ [])) || list_any is (read rest))
   any_first name rest = ap (list_any is) (first name rest) ∙ list_any-append is (read (name ∷ [])) (read rest)
 
-  -- of the first one
+  -- if the test holds of the first element, it holds of one in the list
   pub found_first : (names : List (Option Span)) (name other : Option Span) → 1 ≤ length names → get_or names 0 other ≡ name
       → list_any is (read (name ∷ [])) ≡ true → true ≡ list_any is (read names)
   found_first [] name other some same found = absurd (none_first some)
@@ -50,7 +50,7 @@ module _ {A : Type 0} (is : A → Bool) (read : List (Option Span) → List A)
       let P : Option Span → Type 0 = λ n. list_any is (read (n ∷ [])) ≡ true in
       sym (any_first item rest ∙ ap (λ (b : Bool). b || list_any is (read rest)) (subst P (sym same) found))
 
-  -- or of one after it
+  -- if the test doesn't hold of the first element, the elements after it decide
   pub later_first : (names : List (Option Span)) (name other : Option Span) → 1 ≤ length names → get_or names 0 other ≡ name
       → list_any is (read (name ∷ [])) ≡ false
       → list_any is (read (take (length names - 1) (drop 1 names))) ≡ list_any is (read names)

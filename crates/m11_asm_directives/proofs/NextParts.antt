@@ -1,4 +1,4 @@
--- The parts of a text from a column on, by the one that stands next.
+-- The parts of a text that begin at a column, by the next part.
 use Rattle.std.proofs.Common.{◌≡◌, ℕ, suc, Bool, true, false, not, List, [], ◌∷◌, ◌++◌, Option, Some, None, refl, sym, ap, ◌∙◌}
 use Rattle.std.proofs.lemmas.List.{append_assoc, append-nil}
 use Rattle.std.specs.Prelude.{if◌then◌else◌}
@@ -8,13 +8,13 @@ use Rattle.m11_scan_statements.specs.Parts.{next_part}
 use Rattle.m11_scan_statements.specs.declared.parts.Part.{Part}
 use Rattle.m11_asm_directives.specs.Seen.{parts_of, parts_then}
 
--- where no part stands next, all have been found
+-- if no part comes next, the parts found so far are all the parts
 ended : (line : List ℕ) (is_first : Bool) (column : ℕ) (list : List Part) (more whole : ListAt Part) → more ≡ parts_of [] column
     → parts_then list more ≡ whole → parts_of list column ≡ whole
 ended line is_first column list more whole none all =
     ap (λ (l : List Part). parts_of l column) (sym (append-nil list)) ∙ ap (λ (p : ListAt Part). parts_then list p) (sym none) ∙ all
 
--- no more are looked for
+-- if the bound is 0, the parts found so far are all the parts
 pub bound_ends : (line : List ℕ) (is_first : Bool) (left column : ℕ) (list : List Part) (whole : ListAt Part) → left ≡ 0
     → parts_then list (parts_within left line is_first column) ≡ whole → parts_of list column ≡ whole
 bound_ends line is_first left column list whole is all =
@@ -49,12 +49,12 @@ module _ (line : List ℕ) (is_first : Bool) (left next column : ℕ) (is : left
         ∙ ap (λ (b : Bool). if b then item_before part (parts_within next line false part.end) else parts_of (part ∷ []) part.end)
         closes
 
-    -- a part without its end is the last
+    -- a part without its closing delimiter is the last one
     pub part_breaks : part.is_closed ≡ false → parts_of longer part.end ≡ whole
     part_breaks unclosed =
         ap (λ (l : List Part). parts_of l part.end) pushed ∙ ap (λ (p : ListAt Part). parts_then list p) (sym (by_end false unclosed)) ∙ all
 
-    -- after any other the next one stands
+    -- after any other part, the next one begins at its end
     pub part_joins : part.is_closed ≡ true → (after : ℕ) → after ≡ part.end
         → parts_then longer (parts_within next line false after) ≡ whole
     part_joins closed after same =

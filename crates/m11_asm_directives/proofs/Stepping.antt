@@ -1,4 +1,4 @@
--- Elements of lists are put one after the other.
+-- Elements of lists are emitted one after the other.
 use Rattle.std.proofs.Common.{◌≡◌, ℕ, List, ◌∷◌, Bool, false, sym, ap, ◌∙◌}
 use Rattle.std.specs.Prelude.{if◌then◌else◌}
 use Rattle.m11_scan_expressions.specs.Expressions.{KnownSymbols, value}
@@ -11,7 +11,7 @@ use Rattle.m11_asm_rules.specs.Tables.{Table}
 use Rattle.m11_asm_rules.specs.declared.meanings.Context.TheVariants.{MayBeGlobal}
 use Rattle.m11_scan_expressions.specs.Quantities.{Quantity, absolute}
 
--- one thing, and then others
+-- what is emitted after a first part, together with that part, is what is emitted at once
 pub step_on : (done new first rest more : Emission) → new ≡ followed_by done first → rest ≡ more
     → followed_by new rest ≡ followed_by done (followed_by first more)
 step_on done new first rest more adds same =
@@ -37,7 +37,7 @@ module _ (map : Map) (table : Table) (done new : Emission) (location next : ℕ)
       ∙ ap (λ (p : Emission). followed_by done (followed_by p (bytes_from map table (further location 1) elements)))
       (ap (λ (q : Quantity). byte table location q) is)
 
--- an element that isn't empty
+-- the value of an element that isn't empty is that of its expression
 pub of_element : (known : KnownSymbols) (element : Expression) (one : Quantity) (empty : Bool) → empty ≡ false
     → empty ≡ is_empty element → one ≡ value known element → one ≡ element_value known element
 of_element known element one empty stands is same =

@@ -1,4 +1,4 @@
--- The parts of a text are put one after the other.
+-- The parts of a text, and its characters, are emitted one after the other.
 use Rattle.std.proofs.Common.{◌≡◌, ℕ, List, [], ◌∷◌, map, ap, ◌∙◌}
 use Rattle.m11_asm_operands.proofs.Joining.{followed_joins}
 use Rattle.m11_asm_directives.proofs.Stepping.{step_on}

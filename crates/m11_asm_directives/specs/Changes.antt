@@ -1,4 +1,4 @@
--- How definitions see a move of the location counter in the code.
+-- The code's moves of the location counter, as the definitions represent them.
 use Rattle.std.specs.Prelude.{Option, Some, None}
 use Rattle.m11_asm_rules.specs.Changes.{Change, Counts, Keeps}
 use Rattle.m11_asm_rules.specs.Locations as locations
@@ -9,7 +9,7 @@ abbrev pub move_seen : Move → locations.Move
 move_seen (Steps size) = locations.Steps size
 move_seen (Goes location) = locations.Goes location
 
--- the change that a move makes, or none without a move
+-- the change of the location counter that a move makes; without a move, the change that keeps the counter
 abbrev pub moves : Option Move → Change
 moves (Some step) = Counts (move_seen step)
 moves None = Keeps

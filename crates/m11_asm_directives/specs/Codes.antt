@@ -11,6 +11,6 @@ coded_by character None = 0o40
 abbrev pub coded : ℕ → ℕ
 coded character = coded_by character (code_of character)
 
--- the character of a text at an index; a blank if it has no code, or if the text is shorter
+-- the character of a text at an index; a blank if that character has no code, or if the text ends before the index
 abbrev pub coded_at : Bytes → ℕ → ℕ
 coded_at text location = if nat_lt location (length text) then coded (slice_index text location) else 0o40

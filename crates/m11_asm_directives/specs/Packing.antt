@@ -23,6 +23,7 @@ text_codes text = codes_of (map character_code text) (character_flags text)
 abbrev pub codes_first : List ℕ → Codes → Codes
 codes_first codes more = codes_of (codes ++ more.codes) more.flags
 
--- the words and flags emitted so far, then the words packed from the waiting codes and more codes, with the flags of the latter
+-- the words and flags emitted so far, followed by the words that pack the waiting codes and then the codes of `more`, with the flags of
+-- `more`
 abbrev pub packing : Emission → Waiting → Codes → Emission
 packing done waiting more = followed_by done (emission (packed_words (waiting_codes waiting ++ more.codes)) more.flags)

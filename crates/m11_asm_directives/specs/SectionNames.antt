@@ -1,4 +1,4 @@
--- How definitions see the name of a section in the code.
+-- The code's `SectionAt`, the name of a section at a column, as the definitions represent it.
 use Rattle.m11_asm_rules.specs.Psects as sections
 use Rattle.m11_asm_directives.specs.declared.psects.SectionAt.{SectionAt}
 use Rattle.m11_asm_directives.specs.declared.psects.SectionAt.TheVariants.{Unnamed, Named, Bad}

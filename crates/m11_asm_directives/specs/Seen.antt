@@ -1,4 +1,4 @@
--- How definitions see the parts of a text in the code. (MACRO-11 Language Reference Manual, ".ASCII directive".)
+-- The code's lists of the parts of a text, as the definitions represent them. (MACRO-11 Language Reference Manual, ".ASCII directive".)
 use Rattle.std.specs.Prelude.{ℕ, List, ◌++◌}
 use Rattle.m11_asm_rules.specs.Elements.{ListAt}
 use Rattle.m11_scan_statements.specs.declared.parts.Part.{Part}

@@ -1,4 +1,4 @@
--- How definitions see what a directive sets, with the names of its list.
+-- The code's values for what a directive sets, with the names of its list, as the definitions represent them.
 use Rattle.std.specs.Prelude.{List, Option}
 use Rattle.m11_base.specs.Devices.{Bytes}
 use Rattle.m11_obj.specs.Attributes.{bits_of}

@@ -1,4 +1,4 @@
--- How definitions see what a directive stores, with the lists among its arguments.
+-- The code's values for what a directive stores, with the lists among its arguments, as the definitions represent them.
 use Rattle.m11_base.specs.Devices.{Bytes}
 use Rattle.m11_scan.specs.Views.{bits_of}
 use Rattle.m11_scan_expressions.specs.Tokens.{expression_of}

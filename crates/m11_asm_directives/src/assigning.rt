@@ -48,7 +48,7 @@ pub fn assignment_flags(
     target_flags(map, table, name).with(value.flags)
 }
 
-/// The value of an expression in which an undefined name counts as 0, flagged U: it isn't a reference to another module.
+/// The value of an expression. An undefined name in the expression counts as 0, flagged U, and isn't a reference to another module.
 pub fn known_value(map: &Map<'_>, table: &Table, line: &Line, place: Expr) -> Value
     ensures { quantity result ≡ value (known_at map.now LocalOnly table.now (location table.now)) (expression_of line.now.text place) }
 {
@@ -56,7 +56,7 @@ pub fn known_value(map: &Map<'_>, table: &Table, line: &Line, place: Expr) -> Va
     place.value(line, &names)
 }
 
-/// The value of an expression, as `known_value` returns it. The symbols in the expression are added to the remarks, in order. Error: memory
+/// The value of an expression, as `known_value` returns it. The symbols in the expression are added to `remarks`, in order. Error: memory
 /// for the symbols was refused.
 pub fn read_known_value(
     map: &Map<'_>,
@@ -74,7 +74,7 @@ pub fn read_known_value(
     Ok(value)
 }
 
-/// Q if a token follows an expression that ends at a column.
+/// Q if a token follows the expression that ends before the column `end`; otherwise no flag.
 pub fn after_expression(line: &Line, end: u8) -> ErrorFlags
     ensures { bits_of result ≡ flag_if (has_token (tokens_from line.now.text end)) flag_Q }
 {
@@ -90,8 +90,8 @@ fn target_flags(map: &Map<'_>, table: &Table, name: Option<Name>) -> ErrorFlags
     }
 }
 
-/// The flags of any definition of a name other than by a label: M for the name of a label, and U for a global name whose value is unknown
-/// at the end of the first pass.
+/// The flags M and U of a line that defines this name by an assignment, `.NARG` or `.NCHR`: M for the name of a label, and U for a global
+/// name whose value is unknown at the end of the first pass.
 pub fn definition_flags(map: &Map<'_>, table: &Table, name: Name) -> ErrorFlags
     ensures { bits_of result ≡ spec.definition_flags map.now table.now name }
 {
@@ -131,7 +131,7 @@ fn is_unknown_as(standing: Standing) -> bool
     }
 }
 
-/// The move of the location counter by `.=`: none if its value isn't a location of the current section.
+/// The move of the location counter by `.=`; None if the value of its expression isn't a location of the current section.
 pub fn counter_move(table: &Table, line: &Line, place: Expr) -> Option<Move>
     ensures { moves result ≡ spec.counter_change table.now (expression_of line.now.text place) }
 {
@@ -143,7 +143,7 @@ pub fn counter_move(table: &Table, line: &Line, place: Expr) -> Option<Move>
     }
 }
 
-/// The flags of `.=`: those of its value, R for a register, and A for a location outside the current section.
+/// The flags of `.=`: those of its value, R for a register, and A for any value that isn't a location of the current section.
 pub fn counter_flags(table: &Table, line: &Line, place: Expr) -> ErrorFlags
     ensures { bits_of result ≡ spec.counter_flags table.now (expression_of line.now.text place) }
 {
@@ -152,7 +152,7 @@ pub fn counter_flags(table: &Table, line: &Line, place: Expr) -> ErrorFlags
     value.flags.with(register.with(outside_flags(table, value)))
 }
 
-// A for a location outside the current section.
+// A for a value that isn't a location of the current section.
 fn outside_flags(table: &Table, value: Value) -> ErrorFlags
     ensures { bits_of result ≡ (if is_here table.now value.kind then 0 else flag_A) }
 {

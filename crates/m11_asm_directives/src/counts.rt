@@ -18,8 +18,8 @@ use m11_scan_expressions::{bad_flags, flags_before, left_over};
 use m11_scan_statements::{Actual, Separator, next_actual, separator_at};
 use m11_unfold_rules::{actual_flags, name_at};
 
-/// Reads a `.NARG`, which assigns its name the number of actuals of the innermost macro. Outside a macro it does nothing, and is flagged O;
-/// without a name it does nothing, and is flagged A. Both flags are possible.
+/// Reads a `.NARG`, which assigns its name the number of actuals of the innermost macro call. Outside a macro it does nothing, and is
+/// flagged O; without a name it does nothing, and is flagged A. Both flags are possible.
 pub fn narg(arguments: Option<u16>, line: &Line, start: u8) -> Effect
     ensures { (names : List (Option Span)) → effect_seen line.now.text names result ≡ spec.narg arguments line.now.text start }
 {
@@ -60,7 +60,7 @@ pub fn nchr(line: &Line, start: u8) -> Effect
     }
 }
 
-// The text after a name and its separator, if there is one.
+// The text after a name and its separator; None if there is no text.
 fn text_at(line: &Line, end: u8) -> Option<Actual>
     ensures { result ≡ spec.text_at line.now.text end }
 {

@@ -14,7 +14,8 @@ use m11_base::Name;
 use m11_scan::{ErrorFlags, Line, read_name};
 use m11_scan_statements::Span;
 
-/// Reads a `.GLOBL`, which makes its names global, or a `.WEAK`, which makes them global and weak. A for an element that isn't a name.
+/// Reads a `.GLOBL`, which makes its names global, or a `.WEAK`, which makes them global and weak. An element that isn't a name is flagged
+/// A.
 pub fn exported(names: &mut ListedNames, is_weak: bool, line: &Line, start: u8) -> Effect
     ensures { effect_seen line.now.text names.new.list.items result ≡ spec.exported is_weak line.now.text start }
 {
@@ -25,7 +26,7 @@ pub fn exported(names: &mut ListedNames, is_weak: bool, line: &Line, start: u8) 
     }
 }
 
-/// The name in an element of a list, if there is one.
+/// The name that an element of a list contains; None for an element that isn't a valid name.
 pub fn listed_name(line: &Line, name: Option<Span>) -> Option<Name>
     ensures { option_to_list result ≡ names_of (texts_of line.now.text (name ∷ [])) }
 {

@@ -49,7 +49,7 @@ fn parts_flags(line: &Line, start: u8, parts: &[Part]) -> ErrorFlags
     flags
 }
 
-// These flags, with those that `flags_of` gives for a part after a column.
+// These flags, with those that `flags_of` returns for a part after a column.
 fn with_part(flags: ErrorFlags, line: &Line, column: u8, part: Part) -> ErrorFlags
     ensures { (parts : List Part) → bit_or (bits_of result) (spec.parts_flags line.now.text part.end parts)
         ≡ bit_or (bits_of flags) (spec.parts_flags line.now.text column (part ∷ parts)) }

@@ -14,8 +14,8 @@ use m11_scan::{ErrorFlags, Line};
 use m11_scan_expressions::{left_over, skip_flags};
 use m11_scan_statements::{Part, PartKind, next_part};
 
-/// Reads an `.IDENT`: the first six characters of its text identify the module. A character outside RADIX-50 counts as a blank, flagged A.
-/// Without a text, or with an expression in its place, it does nothing, and is flagged A.
+/// Reads an `.IDENT`: the first six characters of its text identify the module. A character without a RADIX-50 code counts as a blank, and
+/// is flagged A. Without a text, or with an expression in place of the text, the directive does nothing, and is flagged A.
 pub fn ident(line: &Line, start: u8) -> Effect
     ensures { (names : List (Option Span)) → effect_seen line.now.text names result ≡ spec.ident line.now.text start }
 {
@@ -52,7 +52,7 @@ fn first_six(text: &[u8]) -> &[u8]
     &text[..text.len().min(6)]
 }
 
-// The character of a text at an index; a blank if it has no code, or if the text is shorter.
+// The character of a text at an index; a blank if that character has no code, or if the text ends before the index.
 fn coded_at(text: &[u8], index: usize) -> u8
     ensures { result ≡ coded_at text.now index }
 {
@@ -71,8 +71,8 @@ fn coded(character: u8) -> u8
     }
 }
 
-// The flags of a text: I for characters skipped before it, A if its closing delimiter is missing or one of its first six characters is
-// outside RADIX-50, and those of what is left over.
+// The flags of a text: I for characters skipped before it, A if its closing delimiter is missing or one of its first six characters has no
+// RADIX-50 code, and those of what is left over.
 fn text_flags(line: &Line, start: u8, part: Part) -> ErrorFlags
     ensures { bits_of result ≡ spec.text_flags line.now.text start part }
 {
@@ -83,7 +83,7 @@ fn text_flags(line: &Line, start: u8, part: Part) -> ErrorFlags
         .with(coded.with(left_over(line, part.end)))
 }
 
-// A if a text has a character outside RADIX-50.
+// A if a text has a character without a code.
 fn character_flags(text: &[u8]) -> ErrorFlags
     ensures { bits_of result ≡ character_flags text.now }
 {

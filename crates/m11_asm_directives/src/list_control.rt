@@ -18,7 +18,7 @@ use m11_scan::{ErrorFlags, Line, six_characters};
 use m11_scan_expressions::{has_token, rest_flags};
 use m11_scan_statements::Span;
 
-// The arguments of `.LIST` and `.NLIST`; only ME has an effect.
+// The valid arguments of `.LIST` and `.NLIST`; only ME has an effect.
 const LISTING_WORDS: [[u8; 6]; 15] = [
     *b"SEQ   ", *b"LOC   ", *b"BIN   ", *b"SRC   ", *b"COM   ", *b"BEX   ", *b"MD    ", *b"MC    ",
     *b"ME    ", *b"MEB   ", *b"CND   ", *b"LD    ", *b"TOC   ", *b"SYM   ", *b"TTM   ",
@@ -27,7 +27,7 @@ const LISTING_WORDS: [[u8; 6]; 15] = [
 // The argument for the listing of expansions.
 const EXPANSIONS: &[u8; 6] = b"ME    ";
 
-// The arguments of `.ENABL`: LC and GBL, which are always in force.
+// The valid arguments of `.ENABL`: LC and GBL, which are always in force.
 const ENABLED_WORDS: [[u8; 6]; 2] = [*b"LC    ", *b"GBL   "];
 
 /// Reads a `.LIST` or a `.NLIST`. Without arguments it raises or lowers the listing level; with ME among its arguments it turns the listing
@@ -58,7 +58,7 @@ fn by_words(is_list: bool, has_expansions: bool) -> Setting
     }
 }
 
-// Whether a list has a word.
+// Whether a list contains this word of six characters.
 fn has_word(line: &Line, names: &[Option<Span>], word: &[u8; 6]) -> bool
     ensures { result ≡ spec.is_among (texts_of line.now.text names.now) word.now }
 {
@@ -81,7 +81,7 @@ fn is_word(line: &Line, name: Option<Span>, word: &[u8; 6]) -> bool
     }
 }
 
-/// Reads an `.ENABL`, which changes nothing. A for any argument but LC and GBL, and for a missing argument.
+/// Reads an `.ENABL`, which changes nothing. It is flagged A for any argument but LC and GBL, and for a missing argument.
 pub fn enabl(names: &mut ListedNames, line: &Line, start: u8) -> Effect
     ensures { effect_seen line.now.text names.new.list.items result ≡ spec.enabl line.now.text start }
 {
@@ -91,7 +91,7 @@ pub fn enabl(names: &mut ListedNames, line: &Line, start: u8) -> Effect
     }
 }
 
-/// Reads a `.DSABL`, which changes nothing. It always has A, since no argument is supported and a missing one is an error too.
+/// Reads a `.DSABL`, which changes nothing. It is always flagged A, since no argument is supported, and a missing one is an error too.
 pub fn dsabl(names: &mut ListedNames, line: &Line, start: u8) -> Effect
     ensures { effect_seen line.now.text names.new.list.items result ≡ spec.dsabl line.now.text start }
 {
@@ -101,7 +101,8 @@ pub fn dsabl(names: &mut ListedNames, line: &Line, start: u8) -> Effect
     }
 }
 
-// Reads the words of a list, and returns their flags: A for a word that isn't among the known ones, and the flags of any list of names.
+// Reads a list of words, and returns its flags: A for a word that isn't among the known ones, and those that `names_flags` finds in the
+// list.
 fn words_flags(names: &mut ListedNames, known: &[[u8; 6]], line: &Line, start: u8) -> ErrorFlags
     ensures list { names.new.list.items ≡ (names_at line.now.text start).list }
     ensures flags { bits_of result ≡ spec.words_flags known.now line.now.text start (names_at line.now.text start) }

@@ -39,7 +39,7 @@ impl Waiting {
         }
     }
 
-    // Emits the last word, filled with blanks, if any code waits for it. Error: memory may be refused.
+    // Emits the incomplete word, filled with blanks, if it has any code. Error: memory may be refused.
     pub(crate) fn end(self, emission: &mut Emission) -> Result<(), AllocError>
         ensures { IfOk result (λ _. emission.new ≡ packing emission.old self (codes_of [] 0)) }
     {
@@ -65,7 +65,7 @@ impl Waiting {
         self.with_characters(text, emission)
     }
 
-    // As `with_text`, but adds no flags. Error: memory may be refused.
+    // Like `with_text`, but adds no flags. Error: memory may be refused.
     fn with_characters(self, text: &[u8], emission: &mut Emission) -> Result<Waiting, AllocError>
         ensures { IfOk result (λ after. (more : spec.Codes)
             → packing emission.new after more ≡ packing emission.old self (codes_first (map spec.character_code text.now) more)) }
@@ -78,7 +78,7 @@ impl Waiting {
     }
 }
 
-// Three codes in a word, modulo 65536.
+// The word that packs three codes, modulo 65536.
 fn packed(first: u16, second: u16, third: u16) -> u16
     ensures { spec.packed first second third ≡ fixed_word result }
 {
@@ -96,7 +96,7 @@ fn character_code(character: u8) -> u16
     }
 }
 
-// A for a character without a code.
+// A if a text has a character without a code.
 fn character_flags(text: &[u8]) -> ErrorFlags
     ensures { bits_of result ≡ spec.character_flags text.now }
 {

@@ -8,8 +8,8 @@ use arrayvec::ArrayVec;
 use m11_scan::Line;
 use m11_scan_statements::{Part, PartKind, next_part};
 
-/// The most parts that a line may have: each part has at least two characters, except for the last one, which may lack its closing
-/// delimiter.
+/// The most parts that a line of 132 characters may have: each part has at least two characters, except for the last one, which may lack
+/// its closing delimiter.
 pub const PART_LIMIT: usize = 66;
 
 /// The parts of a text, one after the other.
@@ -17,7 +17,7 @@ pub const PART_LIMIT: usize = 66;
 pub struct Parts {
     /// The parts, in order.
     pub list: ArrayVec<Part, PART_LIMIT>,
-    /// The column after the last part, or where the text should begin if it has no part. Any text after it is left over.
+    /// The column after the last part, or, without a part, the column where the text should begin. What follows in the line is left over.
     pub end: u8,
 }
 
@@ -30,7 +30,7 @@ impl Parts {
         }
     }
 
-    /// Reads the parts of a text that begins at a column of a line, in place of the parts held before.
+    /// Reads the parts of a text that begins at a column of a line, in place of the parts read before.
     pub fn read(&mut self, line: &Line, start: u8)
         ensures { parts_seen self.new ≡ spec.parts_at line.now.text start }
     {

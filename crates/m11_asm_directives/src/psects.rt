@@ -27,7 +27,8 @@ pub enum SectionAt {
     Bad,
 }
 
-// Reads the name of a section at a column. There is no name if no token is left, or if a comma comes first.
+// Reads the name of a section at a column. There is no name if no token is left, or if a comma comes first. Anything else that isn't a name
+// is bad.
 fn section_at(line: &Line, start: u8) -> SectionAt
     ensures { section_seen result ≡ spec.section_at line.now.text start }
 {
@@ -85,7 +86,7 @@ fn read_attributes(names: &mut ListedNames, line: &Line, end: u8)
 }
 
 /// Reads a `.CSECT`, which selects the section with its name, or the blank section without a name. A new section with a name gets the
-/// attributes RW, I, GBL, REL and OVR. With a bad name it does nothing, and is flagged A.
+/// attributes RW, I, GBL, REL and OVR. With a bad name the directive does nothing, and is flagged A.
 pub fn csect(names: &mut ListedNames, line: &Line, start: u8) -> Effect
     ensures { effect_seen line.now.text names.new.list.items result ≡ spec.csect line.now.text start }
 {

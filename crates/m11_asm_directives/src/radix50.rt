@@ -30,7 +30,7 @@ pub fn rad50(arguments: &mut Arguments, line: &Line, start: u8) -> Storing
     }
 }
 
-// The size in bytes of a text in RADIX-50: a word for every three codes, and one for the last one or two, if any are left. At most 11,220.
+// The size in bytes of a text in RADIX-50: a word for every three codes, and another word if one or two codes are left. At most 11,220.
 pub(crate) fn packed_size(line: &Line, parts: &Parts) -> u32
     ensures size { result ≡ spec.packed_size (spec.contents_of line.now.text parts.now.list.items) }
     ensures most { result ≤ 11220 }

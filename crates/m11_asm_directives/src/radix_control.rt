@@ -17,7 +17,7 @@ use m11_scan::{ErrorFlags, Line, Radix, Sort, next_token, read_number};
 use m11_scan_expressions::left_over;
 
 /// Reads a `.RADIX`, which sets the radix to 2, 8 or 10, or to 8 without an argument. The argument is a decimal number, with or without a
-/// period after it. With any other argument it does nothing, and is flagged A.
+/// period after it. With any other argument the directive does nothing, and is flagged A.
 pub fn radix(line: &Line, start: u8) -> Effect
     ensures { (names : List (Option Span)) → effect_seen line.now.text names result ≡ spec.radix line.now.text start }
 {
@@ -54,7 +54,7 @@ fn front_of(text: &[u8]) -> &[u8]
     &text[..text.len().saturating_sub(1)]
 }
 
-// The radix 2, 8 or 10 that decimal digits stand for; None for any other number.
+// The radix that is written in decimal digits: 2, 8 or 10; None for any other number.
 fn radix_of(digits: &[u8]) -> Option<Radix>
     ensures { result ≡ spec.radix_of (number_of Decimal digits.now) }
 {

@@ -46,7 +46,7 @@ pub fn bytes(arguments: &mut Arguments, line: &Line, start: u8) -> Storing
     }
 }
 
-// Reads the elements of a list, and returns the flags of characters skipped between them and of what is left over.
+// Reads the elements of a list, and returns I for characters skipped in the list, and the flags of what is left over after it.
 fn read_elements(elements: &mut Elements, line: &Line, start: u8) -> ErrorFlags
     ensures list { elements_seen line.now.text elements.new.list.items ≡ (elements_at line.now.text start).list }
     ensures flags { bits_of result ≡ argument_flags line.now.text start (elements_at line.now.text start).end }
@@ -63,7 +63,7 @@ pub(crate) fn element_count(elements: &Elements) -> u32
     elements.list.as_slice().len() as u32
 }
 
-// Emits elements as words, from the location of the line on, with their flags. Error: memory may be refused.
+// Emits elements as words, beginning at the location of the line, with their flags. Error: memory may be refused.
 pub(crate) fn emit_words(
     emission: &mut Emission,
     line_context: &LineContext,
@@ -96,7 +96,7 @@ fn emit_element_word(
     Ok(further(location, 2))
 }
 
-// Emits elements as bytes, from the location of the line on, with their flags. Error: memory may be refused.
+// Emits elements as bytes, beginning at the location of the line, with their flags. Error: memory may be refused.
 pub(crate) fn emit_bytes(
     emission: &mut Emission,
     line_context: &LineContext,
@@ -180,7 +180,7 @@ fn firm_value(table: &Table, location: u16, line: &Line, count: Expr) -> Value
     count.value(line, &FirmNames::new(table, location))
 }
 
-// The flags of the count of a block, which must be an absolute number; none without an expression.
+// The flags of the count of a block, with R for a register, and A for any other value that isn't absolute; none without an expression.
 pub(crate) fn count_flags(table: &Table, location: u16, line: &Line, count: Expr) -> ErrorFlags
     ensures { bits_of result ≡ spec.count_flags (firm_known table.now location) (expression_of line.now.text count) }
 {

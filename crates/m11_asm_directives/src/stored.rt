@@ -73,7 +73,7 @@ impl Arguments {
 }
 
 impl Storage {
-    /// Whether it needs an even location: it holds words, or reserves units of an even number of bytes.
+    /// Whether the storage needs an even location: it holds words, or reserves units of an even number of bytes.
     pub fn is_even(self) -> bool
         ensures { (line : Bytes) (arguments : Arguments) → result ≡ spec.is_even (storage_seen line arguments self) }
     {
@@ -84,7 +84,7 @@ impl Storage {
         }
     }
 
-    /// Its size in bytes at a location: at most 16,711,425. The size of reserved room depends on firm names alone.
+    /// The size of the storage in bytes at a location: at most 16,711,425. The size of reserved room depends on firm names alone.
     pub fn size(self, line: &Line, arguments: &Arguments, table: &Table, here: u16) -> u32
         ensures size { result ≡ spec.size table.now here (storage_seen line.now.text arguments.now self) }
         ensures most { result ≤ 16711425 }
@@ -102,7 +102,8 @@ impl Storage {
         }
     }
 
-    /// Emits its contents at the location of the line, and its flags; reserved room has no contents. Error: memory may be refused.
+    /// Emits the contents of the storage at the location of the line, and their flags. `Room` emits only flags, and `AlignTo` emits
+    /// nothing. Error: memory may be refused.
     pub fn emit(
         self,
         emission: &mut Emission,

@@ -49,8 +49,8 @@ pub(crate) fn text_size(line: &Line, parts: &Parts, is_ended: bool) -> u32
     if is_ended { size + 1 } else { size }
 }
 
-// Emits the bytes of a text, from the location of the line on, with the flags of its expressions, and then a zero byte if `is_ended` is
-// true. Error: memory may be refused.
+// Emits the bytes of a text, beginning at the location of the line, with the flags of its expressions, and then a zero byte if `is_ended`
+// is true. Error: memory may be refused.
 pub(crate) fn emit_text(
     emission: &mut Emission,
     line_context: &LineContext,
@@ -64,7 +64,7 @@ pub(crate) fn emit_text(
     emit_last(emission, is_ended)
 }
 
-// Emits the zero byte after the parts of a text, if it has one. Error: memory may be refused.
+// Emits the zero byte after the parts of a text, if `is_ended` is true. Error: memory may be refused.
 fn emit_last(emission: &mut Emission, is_ended: bool) -> Result<(), AllocError>
     ensures { IfOk result (λ _. emission.new
         ≡ followed_by emission.old (contents.emission (map contents.fixed_byte (spec.last_byte is_ended)) 0)) }
@@ -76,7 +76,7 @@ fn emit_last(emission: &mut Emission, is_ended: bool) -> Result<(), AllocError>
     }
 }
 
-// Emits the bytes of parts, one part after the other, from a location on, with the flags of their expressions. Error: memory may be
+// Emits the bytes of parts, one part after the other, beginning at a location, with the flags of their expressions. Error: memory may be
 // refused.
 fn emit_parts(
     emission: &mut Emission,

@@ -29,7 +29,7 @@ both_ties Less other = refl
 both_ties Equal other = refl
 both_ties Greater other = refl
 
--- names are equal in the order if they are the same
+-- two names are equal in the order exactly if they are the same
 name_ties : (one other : Name) → is_same_name one other ≡ is_eq (name_order one other)
 name_ties one other =
     ap (λ (b : Bool). b && (one.1 == other.1)) (number_ties one.0 other.0)

@@ -27,7 +27,8 @@ abbrev pub is_relocatable : Kind → Bool
 is_relocatable (kind.Section name) = true
 is_relocatable other = false
 
--- the row of a name after a section, if the value of its last definition is known and belongs to that section
+-- the row of a name among those that follow a section's row; none unless the value of its last definition is known and belongs to the
+-- section
 abbrev pub row_by : Name → Name → Option Definition → Option DirectoryRow
 row_by section name None = None
 row_by section name (Some definition) = elim (definition.standing) [
@@ -35,7 +36,7 @@ row_by section name (Some definition) = elim (definition.standing) [
   | Unknown ↦ None
 ]
 
--- the rows of those names of a list whose known values belong to a section, in order
+-- the rows of the names in a list whose values are known and belong to a section, in the order of the list
 abbrev pub definition_rows : Table → Name → List Name → List DirectoryRow
 definition_rows table section names =
     filter_map (λ name. row_by section name (last_definition (Named name) table.definitions)) names

@@ -14,10 +14,10 @@ pub record DirectoryFacts : Type 0 where
   pub weak : List Name
   pub title : Option Name
   pub identification : Option Name
-  -- the transfer address, if there is one
+  -- the transfer address, if the source has one
   pub transfer : Option Quantity
 
--- the facts of the code's record, as definitions use them
+-- the facts in the code's record, as the definitions represent them
 abbrev pub directory_facts : FirstPass → DirectoryFacts
 directory_facts first = record {
   table = first.table.now;

@@ -1,5 +1,5 @@
--- Names in the order in which they are written. (RT-11 Volume and File Formats Manual, "Object file format", GSD block. This project's own:
--- names are sorted by their two RADIX-50 words, and each occurs once.)
+-- Names in the order in which an object lists them. (RT-11 Volume and File Formats Manual, "Object file format", GSD block. This project's
+-- own: names are sorted by their two RADIX-50 words, and each occurs once.)
 use Rattle.std.specs.Prelude.{Bool, List, [], ◌∷◌}
 use Rattle.std.specs.BTreeSet.{insert_key}
 use Rattle.std.specs.List.{list_any}

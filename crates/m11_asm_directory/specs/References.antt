@@ -23,6 +23,6 @@ is_open table name = elim (last_definition (Named name) table.definitions) [
 abbrev pub references : DirectoryFacts → List Name
 references facts = ordered (filter (is_open facts.table) (facts.referred ++ facts.table.globals))
 
--- a reference is weak if some line makes its name weak
+-- the rows of the references to these names; a reference is weak if its name is among the weak ones
 abbrev pub reference_rows : List Name → List Name → List DirectoryRow
 reference_rows weak names = map (λ name. row.Reference name (has_name name weak)) names

@@ -26,8 +26,8 @@ identification_rows identification = map (λ name. row.Identification name) (opt
 
 -- ---- a section, and the rows after it
 
--- the rows of the globals whose known values belong to the section; after the absolute section alone, whose number is 0, also those of the
--- references
+-- the rows after the row of a section: those of the globals whose values are known and belong to the section; after the absolute section,
+-- which has the number 0, also those of the references
 abbrev pub rows_under : DirectoryFacts → ℕ → Name → List DirectoryRow
 rows_under facts number section =
     definition_rows facts.table section (ordered facts.table.globals)

@@ -14,7 +14,7 @@ abbrev pub home : Kind → Name
 home (kind.Section name) = name
 home other = absolute_name
 
--- the row of the transfer address, which is 1 in a source without one, since no program begins at 1
+-- the row of the transfer address; a source without a transfer address gets the absolute address 1, since no program begins there
 abbrev pub transfer_row : Option Quantity → DirectoryRow
 transfer_row (Some value) = row.Transfer (home value.kind) value.number
 transfer_row None = row.Transfer absolute_name 1

@@ -42,7 +42,8 @@ fn is_relocatable(kind: &Kind) -> bool
     matches!(kind, Kind::Section(_))
 }
 
-// The row of a global after a section, if the value of its last definition is known and belongs to the section.
+// The row of a global among those that follow a section's row; None unless the value of its last definition is known and belongs to the
+// section.
 fn definition_row(table: &Table, section: Name, name: Name) -> Option<DirectoryRow>
     ensures { result ≡ row_by section name (last_definition (Named name) table.now.definitions) }
 {
@@ -57,7 +58,8 @@ fn definition_row(table: &Table, section: Name, name: Name) -> Option<DirectoryR
     }
 }
 
-/// Adds the rows of those names of a list whose known values belong to a section, in order. Error: memory was refused.
+/// Adds the rows of the names in a list whose values are known and belong to a section, in the order of the list. Error: memory was
+/// refused.
 pub(crate) fn push_definitions(
     rows: &mut Vec<DirectoryRow>,
     table: &Table,

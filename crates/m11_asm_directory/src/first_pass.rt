@@ -10,7 +10,7 @@ use m11_scan_expressions::Value;
 pub struct FirstPass<'a> {
     /// The table after the last line, with the sizes of sections.
     pub table: &'a Table,
-    /// The names that lines use where an undefined name refers to another object.
+    /// The names that lines use in places where an undefined name would refer to another object.
     pub referred: &'a SeededSet<Name>,
     /// The names that `.WEAK` made weak.
     pub weak: &'a SeededSet<Name>,
@@ -18,6 +18,7 @@ pub struct FirstPass<'a> {
     pub title: Option<Name>,
     /// The last identification, if the source has one.
     pub identification: Option<Name>,
-    /// The value of the expression after `.END`, if there is one.
+    /// The transfer address: the value of the expression of the live `.END`. None if no `.END` became live, or if the live one has no
+    /// expression.
     pub transfer: Option<Value>,
 }

@@ -19,7 +19,7 @@ fn home(kind: Kind) -> Name
     }
 }
 
-/// The row of the transfer address. Without one the address is 1, where no program begins.
+/// The row of the transfer address. If the source has none, the row has the absolute address 1, where no program begins.
 pub(crate) fn transfer_row(transfer: Option<Value>) -> DirectoryRow
     ensures { result ≡ transfer_row (option_map quantity transfer) }
 {

@@ -1,4 +1,4 @@
--- The faults of an assembly, each with its number and its name, and those that end writes early. (This project's own. The printed line
+-- The faults of an assembly, each with its number and its name, and which of them end writes early. (This project's own. The printed line
 -- of a fault has both.)
 use Rattle.std.specs.Prelude.{ℕ, List, Option, Some, None, codes}
 use Rattle.m11_scan.specs.declared.fault.LineFault.{LineFault}
@@ -30,7 +30,8 @@ name_of (Unfold inner) = codes "Unfold"
 name_of TooMuchSource = codes "TooMuchSource"
 name_of NoMemory = codes "NoMemory"
 
--- the faults at which writes end early: an output failed, or memory was refused
+-- where writes end early at this fault: in a write to the output that failed, or between two writes if memory was refused; None for any
+-- other fault
 abbrev pub stop_of : AsmFault → Option (Stop Output)
 stop_of (Write output) = Some (In output)
 stop_of NoMemory = Some Between
@@ -41,7 +42,7 @@ abbrev pub of_lines : LineFault → AsmFault
 of_lines line.Read = Read
 of_lines fault = TooMuchSource
 
--- the fault of an assembly for a fault of unfolding; a lack of memory is the same fault everywhere
+-- the fault of an assembly for a fault of unfolding; a lack of memory is `NoMemory` in both
 abbrev pub of_unfolding : UnfoldFault → AsmFault
 of_unfolding unfolded.NoMemory = NoMemory
 of_unfolding fault = Unfold fault

@@ -16,7 +16,7 @@ pub enum AsmFault {
     /// 1: a source could not be read.
     #[error("a source could not be read")]
     Read,
-    /// 2: an output could not be written. The product is the object, and the report the listing.
+    /// 2: an output could not be written. `Output::Product` is the object, and `Output::Report` is the listing.
     #[error("an output could not be written")]
     Write(Output),
     /// 3: more than 4,096 names besides those of the registers, or more than 16,384 local symbols.
@@ -39,7 +39,7 @@ pub enum AsmFault {
 impl AsmFault {
     ghost use Rattle.m11_asm_faults.specs.Faults.{name_of, number_of};
 
-    /// The fault's number, as shown in its line.
+    /// The fault's number, as the printed line of the fault shows it.
     pub fn number(self) -> u8
         ensures { result ≡ number_of self }
     {
@@ -54,7 +54,8 @@ impl AsmFault {
         }
     }
 
-    /// The fault's name, as shown in its line, without the output of `Write`, and without the inner fault of `Unfold`.
+    /// The fault's name, as the printed line of the fault shows it; neither the output of `Write` nor the inner fault of `Unfold` is part
+    /// of it.
     pub fn name(self) -> &'static str
         ensures { result.now ≡ name_of self }
     {

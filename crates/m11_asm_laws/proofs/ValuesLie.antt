@@ -11,7 +11,7 @@ use Rattle.m11_asm_laws.specs.Linked.{linked_bytes}
 use Rattle.m11_asm_laws.specs.Targets.{AreWords, LiesAt, address_of, stored_address}
 use Rattle.m11_asm_laws.proofs.Rows.{displaced_global_row, displaced_section_row, global_row, section_row}
 
--- the distance of two locations of one section doesn't change
+-- the distance between two locations of one section doesn't change when the section moves
 same_distance : (own location number linked_location : ℕ) → location < 65536 → number < 65536 → linked_location ≡ (own + location) % 65536
     → (number + 131072 - (location + 2)) % 65536 ≡ ((own + number) % 65536 + (65536 - (linked_location + 2) % 65536)) % 65536
 same_distance own location number linked_location within known e = omega arith

@@ -13,7 +13,8 @@ address_of found module_index own Zero number = modulo number
 address_of found module_index own (InSection name) number = modulo (found.base module_index name + number)
 address_of found module_index own (InObject name) number = modulo (symbol found name + number)
 
--- the address as it is stored: in a relative operand (true) as its distance from the location after the word, otherwise as it is
+-- the address as it is stored: in a relative operand (true) as its distance from the location after the word, modulo 65536; otherwise
+-- unchanged
 abbrev pub stored_address : Bool → ℕ → ℕ → ℕ
 stored_address true linked_location address = less address (following linked_location)
 stored_address false linked_location address = address
@@ -23,7 +24,8 @@ pub record AreWords (found : Findings) : Type 0 where
   pub bases : (module_index : ℕ) (name : Name) → found.base module_index name < 65536
   pub values : (name : Name) → symbol found name < 65536
 
--- the linked location of a location in the section of a line, modulo 65536; an ABS section is at 0
+-- a location in the section of a line, in a section contribution with this base, has this linked location, modulo 65536; the base of an ABS
+-- section is 0
 pub record LiesAt (table : Table) (own location linked_location : ℕ) : Type 0 where
   pub within : location < 65536
   pub moved : linked_location ≡ modulo (own + location)

@@ -73,8 +73,8 @@ pub fn displaced_globals_are_counted_from_the_word()
         ≡ word_bytes (less (modulo (symbol found name + number)) (following linked_location)) }
 {}
 
-/// Every value that a line emits as a word is, in the linked program, the address of its target. In a relative operand, it is the distance
-/// of that address from the location after the word, modulo 65536.
+/// In the linked program, a value that a line emits as a word is the address of its target or, in a relative operand, the distance of that
+/// address from the location after the word, modulo 65536.
 pub fn linked_values_say_where_their_targets_lie()
     ensures { (found : Findings) (index own linked_location location : ℕ) (table : Table)
         (is_relative : Bool) (value : Quantity) → AreWords found → LiesAt table own location linked_location → value.number < 65536

@@ -42,7 +42,7 @@ use Rattle.m11_asm_line_laws.specs.Lists.AreFormals.{NoFormal, OneFormal}
 past_tokens : (line : List ℕ) (column : ℕ) → length line ≤ column → tokens_from line column ≡ []
 past_tokens line column past = rw (drop_all column line past) refl
 
--- the first token from a column on ends after that column
+-- the first token at or after a column ends after that column
 first_ends : (line : List ℕ) (column : ℕ) (token : Lexeme) (tokens : List Lexeme) → tokens_from line column ≡ token ∷ tokens
     → column < token.end
 first_ends line column token tokens is = elim (cases_lt column (length line)) [
@@ -146,7 +146,7 @@ written_formals line column short = are_formals line line_limit column (omega ar
 separator_after : (line : List ℕ) (column : ℕ) → column ≤ (separator_at line column).end
 separator_after line column = omega arith
 
--- a bare actual and its separator have at least one character together
+-- the lemmas up to `takes_by` show that a bare actual and its separator together have at least one character
 prefix-true : (p : ℕ → Bool) (byte : ℕ) (text : List ℕ) → p byte ≡ true → prefix_len p (byte ∷ text) ≡ 1 + prefix_len p text
 prefix-true p byte text is = ap (λ (b : Bool). if b then 1 + prefix_len p text else 0) is
 
@@ -177,7 +177,7 @@ takes_by byte text other false false is_so so =
     takes_bare byte text (ap (λ (b : Bool). not (b || (byte == 0o54 || byte == 0o73))) is_so
     ∙ ap (λ (b : Bool). not (b || byte == 0o73)) so ∙ ap not other)
 
--- after an actual and its separator the column is further on
+-- the column after an actual and its separator is beyond this column; true without an actual
 abbrev GoesOn : List ℕ → ℕ → Option Actual → Type 0
 GoesOn line column None = Unit {0}
 GoesOn line column (Some actual) = column < (separator_at line actual.end).end
@@ -212,7 +212,7 @@ digits_actual line start = whole_actual Digits start (expression_end line start)
 abbrev bare_actual : List ℕ → ℕ → Actual
 bare_actual line start = whole_actual Bare start (start + prefix_len is_bare (drop start line))
 
--- the actual that begins at a column with these characters from there on
+-- the actual that begins at a column, from the characters that the line has there and after it
 abbrev actual_in : List ℕ → ℕ → Bool → List ℕ → Option Actual
 actual_in line start gives_digits text = elim text [
   | [] ↦ None
@@ -289,7 +289,7 @@ one_as known line actual Digits =
     record { text = digits_of (base_of known.radix) (number_at known line actual.inside.start); is = refl }
 
 module _ (known : KnownSymbols) (line : List ℕ) where
-  -- the wanted ones are the first ones
+  -- if the wanted actuals after the first one are the first of those after it, the same holds with the first one
   one_wanted : (actual : Actual) (wanted : ℕ) (found all : ActualTexts) (one : HasOne (given_by known line actual))
       → found.texts ≡ take wanted all.texts
       → (followed_by (given_by known line actual) found).texts

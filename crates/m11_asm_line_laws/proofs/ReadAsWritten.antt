@@ -129,7 +129,7 @@ labels-exists line =
 
 -- ---- after the labels
 
--- whether a token of this sort and text is a name
+-- whether a token of this sort and text is a name other than `.`
 abbrev names : Sort → List ℕ → Bool
 names sort text = elim sort [ Name ↦ not (is_counter text) | _ ↦ false ]
 
@@ -155,7 +155,7 @@ other_operation first other =
 abbrev assign_to : Lexeme → Bool → ℕ → Body
 assign_to name is_global value = Assign (record { name = span_of name; is_global = is_global; value = value })
 
--- the token assigns, or it doesn't
+-- a token of this sort is `=` or `==`, or there is no assignment
 abbrev SignOr : Lexeme → Lexeme → Sort → Type 0
 SignOr name equals sort =
     ((is_global : Bool) × (sort ≡ equals_of is_global)) ⊎ (set_by Name sort name equals.end ≡ None)

@@ -35,7 +35,7 @@ leads-append : (front back : List ℕ) → Leads front → Leads (front ++ back)
 leads-append [] back f = absurd f
 leads-append (digit ∷ front) back f = f
 
--- ---- the number that they spell
+-- ---- the number that the digits spell
 
 spelled-append : (base : ℕ) (front back : List ℕ)
     → spelled base (front ++ back) ≡ spelled base front * base ^ length back + spelled base back

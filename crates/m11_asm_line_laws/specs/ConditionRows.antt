@@ -17,7 +17,7 @@ pub record Verdict : Type 0 where
   pub holds : Bool
   pub flags : Bytes
 
--- some lines, a line with a condition after them, and the verdict on it
+-- some lines; a line after them with a condition; and the verdict on that condition
 pub record ConditionRow : Type 0 where
   pub before : List Bytes
   pub line : Bytes
@@ -29,7 +29,7 @@ verdict_of acted = record {
   flags = flags_text acted.remarks.flags;
 }
 
--- the verdict on the condition of a line, given the lines before it and its own labels
+-- the verdict on the condition of a line, after the lines before it and after its own labels
 abbrev pub judged : List Bytes → Bytes → Verdict
 judged before line =
     verdict_of (act (known_after_labels (stands (table_after empty_map (map plain before)) (plain line))) (start []) line)

@@ -3,7 +3,7 @@ use Rattle.std.specs.Prelude.{List, [], ◌∷◌, codes}
 use Rattle.m11_obj.specs.declared.pieces.RelocationKind.TheVariants.{Internal, InternalDisplaced}
 use Rattle.m11_asm_line_laws.specs.Worked.{Row, moved_word, row, word}
 
--- an instruction has its code word, and one more for each operand that needs it
+-- an instruction has its code word, and one more word for each operand that needs one
 abbrev pub operand_rows : List Row
 operand_rows =
     row (codes "MOV #1,R0" ∷ []) (codes "" ∷ []) (word 0 0o012700 ∷ word 2 1 ∷ [])
@@ -40,7 +40,7 @@ missing_rows =
     ∷ row (codes "CLR -?(R1)" ∷ []) (codes "IQ" ∷ []) (word 0 0o005061 ∷ word 2 0 ∷ [])
     ∷ []
 
--- whether an operand is a register depends on firm names alone, its number on all names
+-- whether an operand is a register depends on firm names alone; the number of the register depends on all names
 abbrev pub register_rows : List Row
 register_rows =
     row (codes "CLR R1+N" ∷ codes "N=1" ∷ []) (codes "" ∷ codes "" ∷ []) (word 0 0o005002 ∷ [])

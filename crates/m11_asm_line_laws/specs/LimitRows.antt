@@ -14,7 +14,7 @@ use Rattle.m11_asm_lines.specs.declared.counting.Counting.TheVariants.{Definitio
 use Rattle.m11_asm_line_laws.specs.Worked.{plain}
 use Rattle.m11_unfold_rules.specs.Unfolding.{UnfoldedLine}
 
--- a line that selects a section: each number has its own
+-- a line that selects a section, a different one for each number
 abbrev pub section_line : ℕ → Bytes
 section_line number = codes ".PSECT S" ++ (0o101 + number / 16) ∷ (0o101 + number % 16) ∷ []
 

@@ -15,7 +15,7 @@ use Rattle.m11_scan_statements.specs.declared.actuals.Actual.{Actual}
 use Rattle.m11_scan_statements.specs.declared.listed.ListedName.{ListedName}
 use Rattle.m11_scan_statements.specs.declared.spans.Span.{Span}
 
--- the formals from a column on, with the flags of their list; each comes after blanks, a comma or both
+-- these are the formals that follow a column, with the flags of their list; blanks, a comma or both may come before each
 pub data AreFormals (line : Bytes) : ℕ → List MacroFormal → ℕ → Type 0 where
   -- without a next formal the list ends
   NoFormal : (column flags : ℕ) → listed_at line (separator_at line column).end ≡ Ending flags
@@ -25,16 +25,16 @@ pub data AreFormals (line : Bytes) : ℕ → List MacroFormal → ℕ → Type 0
       → listed_at line (separator_at line column).end ≡ Formally formal flags end → AreFormals line end formals further
       → AreFormals line column (formal ∷ formals) (bit_or flags further)
 
--- the actuals from a column on, with their texts and the remarks on them; between two of them are blanks, a comma or both
+-- these are the actuals that follow a column, with their texts and the remarks on them; between two of them are blanks, a comma or both
 pub data AreActuals (known : KnownSymbols) (line : Bytes) : ℕ → ActualTexts → Type 0 where
   -- without a next actual the list ends
   NoActual : (column : ℕ) → next_actual line column true ≡ None → AreActuals known line column nothing_given
-  -- the others follow the separator after an actual
+  -- further actuals follow the separator after an actual
   OneActual : (column : ℕ) (actual : Actual) (more : ActualTexts) → next_actual line column true ≡ Some actual
       → AreActuals known line (separator_at line actual.end).end more
       → AreActuals known line column (followed_by (given_by known line actual) more)
 
--- the elements of a list of names from a column on, and the column after them; `None` for an element that isn't a name
+-- these are the elements of the list of names that begins at a column, and the column after them; `None` is an element that isn't a name
 pub data AreNames (line : Bytes) : ℕ → List (Option Span) → ℕ → Type 0 where
   -- an element without a comma after it is the last one
   LastName : (column : ℕ) (element : ListedName) → listed_name column (tokens_from line column) ≡ element → element.goes_on ≡ false

@@ -19,7 +19,7 @@ use Rattle.m11_scan_expressions.specs.Terms.{symbol_in}
 abbrev pub HasFlag : ℕ → ℕ → Type 0
 HasFlag flag flags = bit_and flags flag ≡ flag
 
--- whether a condition needs a number: EQ NE GT LT GE LE do
+-- whether a condition needs a number: EQ, NE, GT, LT, GE and LE do
 abbrev pub asks_number : Condition → Bool
 asks_number Zero = true
 asks_number NotZero = true
@@ -29,19 +29,19 @@ asks_number NotNegative = true
 asks_number NotPositive = true
 asks_number condition = false
 
--- whether a condition needs names: DF NDF do
+-- whether a condition needs names: DF and NDF do
 abbrev pub asks_names : Condition → Bool
 asks_names Defined = true
 asks_names NotDefined = true
 asks_names condition = false
 
--- whether a condition needs two texts: IDN DIF do
+-- whether a condition needs two texts: IDN and DIF do
 abbrev pub asks_texts : Condition → Bool
 asks_texts Identical = true
 asks_texts Different = true
 asks_texts condition = false
 
--- names with `&` or `!` between them, one of which is missing or isn't a symbol
+-- the tokens are names with `&` or `!` between them, up to a name that is missing or isn't a symbol
 pub data HasBadName : List Lexeme → Type 0 where
   MissingName : HasBadName []
   NoName : (token : Lexeme) (tokens : List Lexeme) → symbol_in token.sort token.text ≡ None → HasBadName (token ∷ tokens)
@@ -49,7 +49,7 @@ pub data HasBadName : List Lexeme → Type 0 where
       → symbol_in name.sort name.text ≡ Some symbol → joining mark.sort ≡ Some joint → HasBadName tokens
       → HasBadName (name ∷ (mark ∷ tokens))
 
--- a text that neither a second text nor a comma follows
+-- the first text is followed neither by a second text nor by a comma
 pub record IsSingleText (line : Bytes) (first : Actual) : Type 0 where
   pub second : next_actual line (separator_at line first.end).end false ≡ None
   pub comma : (separator_at line first.end).has_comma ≡ false

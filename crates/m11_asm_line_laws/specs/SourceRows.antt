@@ -1,5 +1,5 @@
--- Facts from the first pass of sources besides their pieces, worked by hand. (MACRO-11 Language Reference Manual, ".TITLE directive",
--- ".IDENT directive", ".WEAK directive", ".END directive" and "Symbols".)
+-- The facts that a first pass finds about sources, worked by hand. (MACRO-11 Language Reference Manual, ".TITLE directive", ".IDENT
+-- directive", ".WEAK directive", ".END directive" and "Symbols".)
 use Rattle.std.specs.Prelude.{ℕ, List, [], ◌∷◌, codes, map, option_map, Option, Some, None}
 use Rattle.m11_base.specs.Devices.{Bytes}
 use Rattle.m11_base.specs.Rad50.{Name}

@@ -13,19 +13,19 @@ use Rattle.m11_scan_statements.specs.declared.labels.Label.{Label}
 use Rattle.m11_scan_statements.specs.declared.labels.LabelKind.{LabelKind}
 use Rattle.m11_scan_statements.specs.declared.labels.LabelKind.TheVariants.{Ordinary, Global}
 
--- a name that a line can define; `.` isn't one
+-- the token is a name that a line can define; `.` isn't one
 pub record IsNamed (token : Lexeme) : Type 0 where
   pub sort : token.sort ≡ Name
   pub text : is_counter token.text ≡ false
 
--- the name `.`, which is the location counter
+-- the token is the name `.`, which is the location counter
 pub record IsPoint (token : Lexeme) : Type 0 where
   pub sort : token.sort ≡ Name
   pub text : is_counter token.text ≡ true
 
 -- ---- labels
 
--- `:`, or `::`, which makes the name global
+-- `::` if the flag is true, otherwise `:`; after a name, `::` makes that name global
 abbrev pub colon_of : Bool → Sort
 colon_of false = Colon
 colon_of true = TwoColons
@@ -34,14 +34,14 @@ abbrev pub ordinary_kind : Bool → LabelKind
 ordinary_kind false = Ordinary
 ordinary_kind true = Global
 
--- a label: a name or a local symbol, and one or two colons directly after it
+-- the tokens are a label of this kind: a name or a local symbol, and one or two colons directly after it
 pub data IsLabel (name colon : Lexeme) : LabelKind → Type 0 where
   NamedLabel : (is_global : Bool) → name.end ≡ colon.start → IsNamed name → colon.sort ≡ colon_of is_global
       → IsLabel name colon (ordinary_kind is_global)
   LocalLabel : (has_two : Bool) → name.end ≡ colon.start → name.sort ≡ LocalSymbol → colon.sort ≡ colon_of has_two
       → IsLabel name colon (numbered name.text)
 
--- tokens that don't begin with a label
+-- the tokens don't begin with a label
 abbrev pub BeginUnlabelled : List Lexeme → Type 0
 BeginUnlabelled [] = Unit {0}
 BeginUnlabelled (name ∷ []) = Unit {0}
@@ -59,7 +59,7 @@ pub data AreLabelled : List Lexeme → List Label → Type 0 where
 
 -- ---- after the labels
 
--- `=`, or `==`, which makes the name global
+-- `==`, which makes the name global, if the flag is true; otherwise `=`
 abbrev pub equals_of : Bool → Sort
 equals_of false = Equals
 equals_of true = TwoEquals
@@ -79,10 +79,10 @@ abbrev pub IsUnset : Bytes → Lexeme → List Lexeme → Type 0
 IsUnset line first [] = Unit {0}
 IsUnset line first (second ∷ tokens) = IsBehind line first second → second.sort ≡ Equals → ⊥
 
--- the meaning of the tokens after the labels of a line
+-- the tokens after the labels of a line have this meaning
 pub data Says (line : Bytes) : List Lexeme → Body → Type 0 where
   SaysNothing : Says line [] Nothing
-  -- a name before `=` or `==` is assigned
+  -- a name before `=` or `==` is assigned a value
   SaysAssignment : (name equals : Lexeme) (tokens : List Lexeme) (is_global : Bool) → IsNamed name → IsBehind line name equals
       → equals.sort ≡ equals_of is_global
       → Says line (name ∷ (equals ∷ tokens))
@@ -93,8 +93,8 @@ pub data Says (line : Bytes) : List Lexeme → Body → Type 0 where
   -- any other name is an operator
   SaysOperator : (name : Lexeme) (tokens : List Lexeme) → IsNamed name → IsUnassigned line name tokens
       → Says line (name ∷ tokens) (Operate (record { start = name.start; end = name.end }))
-  -- any other `.` begins words
+  -- any other `.` begins a list of words
   SaysPoint : (point : Lexeme) (tokens : List Lexeme) → IsPoint point → IsUnset line point tokens
       → Says line (point ∷ tokens) (Words point.start)
-  -- a token that isn't a name begins words
+  -- a token that isn't a name begins a list of words
   SaysWords : (first : Lexeme) (tokens : List Lexeme) → (first.sort ≡ Name → ⊥) → Says line (first ∷ tokens) (Words first.start)

@@ -9,8 +9,8 @@ ghost use Rattle.m11_unfold_rules.specs.Repeats.{remarks, rept_count};
 ghost use Rattle.m11_base.specs.Devices.{Bytes};
 ghost use Rattle.m11_scan.specs.ErrorFlags.{flag_A};
 
-/// A condition that is refused, because its own name is missing or unknown or an argument is bad or missing, doesn't hold and is flagged A,
-/// whatever the names in its arguments mean.
+/// If a condition is refused, because its own name is missing or unknown or because an argument is bad or missing, then it doesn't hold and
+/// is flagged A, whatever the names in its arguments mean.
 pub fn refused_conditions_do_not_hold()
     ensures off { (known : KnownSymbols) (line : Bytes) (column : ℕ) → IsRefused line column
         → (condition known line column).holds ≡ false }

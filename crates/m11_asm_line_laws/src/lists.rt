@@ -16,8 +16,8 @@ pub fn formals_stand_one_after_the_other()
         → AreFormals line column (formals_after line column).list (formals_after line column).flags }
 {}
 
-/// The actuals of a call are in order: as many as are wanted of those written one after another, or all of them if at least as many are
-/// wanted as the line has columns left.
+/// If `wanted` is at least the number of columns left in the line, the actuals that are read from a call are all those written one after
+/// another. Whatever `wanted` is, the texts read are those of the first `wanted` actuals written.
 pub fn actuals_stand_one_after_the_other()
     ensures all { (known : KnownSymbols) (line : Bytes) (wanted column : ℕ) → length line ≤ column + wanted
         → AreActuals known line column (actuals_from known line wanted column) }
@@ -25,7 +25,7 @@ pub fn actuals_stand_one_after_the_other()
         → (actuals_from known line wanted column).texts ≡ take wanted all.texts }
 {}
 
-/// The names of a list such as that of `.GLOBL` are all those written one after another with commas between them.
+/// The elements of a list of names, for example that of `.GLOBL`, are all those written one after another with commas between them.
 pub fn names_stand_one_after_the_other()
     ensures { (line : Bytes) (column : ℕ) → AreNames line column (names_at line column).list (names_at line column).end }
 {}

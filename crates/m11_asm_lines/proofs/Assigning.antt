@@ -1,4 +1,4 @@
--- What an assignment changes, by the name and the definition that it gives.
+-- What an assignment changes, from its name and its definition.
 use Rattle.std.proofs.Common.{◌≡◌, ◌∙◌, Bool, Option, Some, None, refl, ap}
 use Rattle.m11_base.specs.Rad50.{Name}
 use Rattle.m11_scan_expressions.specs.Expressions.{symbols, value}
@@ -13,7 +13,7 @@ use Rattle.m11_asm_rules.specs.declared.definitions.Definition.{Definition}
 use Rattle.m11_asm_rules.specs.declared.meanings.Context.TheVariants.{LocalOnly}
 use Rattle.m11_asm_lines.specs.Assigned.{with_assignment}
 
--- what a value gives a name
+-- the definition of a name to which a value is assigned
 abbrev pub valued : Quantity → Bool → Definition
 valued one is_firm = record { standing = standing_of one; is_firm = is_firm; label = None }
 
@@ -22,7 +22,7 @@ assigned_by : (map : Map) (table : Table) (tokens : Expression) (name : Option N
 assigned_by map table tokens (Some name) is_global = refl
 assigned_by map table tokens None is_global = refl
 
--- the name gets what the line assigns to it, as the table has it
+-- if a definition is made from the value and the firmness of the expression, assigning it is the change of the assignment
 pub assigned_so : (map : Map) (inside table : Table) (tokens : Expression) (name : Option Name) (is_global : Bool)
     (one : Quantity) (is_firm : Bool) (definition : Definition) → inside ≡ table → definition ≡ valued one is_firm
     → one ≡ value (known_at map LocalOnly inside (location inside)) tokens → is_firm ≡ all_firm inside (symbols tokens)

@@ -1,4 +1,4 @@
--- What the definitions see of each thing in a list, and what they make of it.
+-- Mapping a list into the definitions and then joining the results for each item can be done in one step.
 use Rattle.std.proofs.Common.{◌≡◌, List, [], ◌∷◌, ◌++◌, map, refl, ap}
 use Rattle.std.specs.List.{flat_map}
 

@@ -1,4 +1,4 @@
--- Where `.=` goes is the same by a table and by its firm part.
+-- A table and its firm part determine the same move by `.=`.
 use Rattle.std.proofs.Common.{◌≡◌, if◌then◌else◌, ap}
 use Rattle.m11_scan_expressions.specs.Expressions.{value}
 use Rattle.m11_scan_expressions.specs.Tokens.{Expression}

@@ -1,4 +1,4 @@
--- How far the counter goes on is the same by a table and by its firm part.
+-- A table and its firm part determine the same steps of the location counter.
 use Rattle.std.proofs.Common.{◌*◌, ◌≡◌, ℕ, true, refl, ap}
 use Rattle.m11_base.specs.Devices.{Bytes}
 use Rattle.m11_base.specs.declared.instruction.Op.{Op}

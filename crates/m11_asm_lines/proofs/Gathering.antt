@@ -1,4 +1,4 @@
--- Mentions that are gathered one part after the other.
+-- Uses of symbols that are added one part after the other.
 use Rattle.std.specs.List.{cons_option}
 use Rattle.std.proofs.Common.{◌≡◌, ◌∙◌, ◌<◌, ◌≤◌, ◌-◌, Bool, true, false, if◌then◌else◌, List, [], ◌∷◌, ◌++◌, drop, flat_map, get_or, length, map, take, Option, Some, None, Result, Ok, Err, IsErrAnd, refl, sym, ap, subst, arith}
 use Rattle.std.proofs.lemmas.List.{take_all}
@@ -54,7 +54,7 @@ pub noted_other : (name : Name) (old : UsedNames) → is_register name ≡ false
     → record old { names = with_name name old.names } ≡ with_name_used name old
 noted_other name old is = rw is refl
 
--- ---- names don't become fewer
+-- ---- the names never become fewer
 
 one_more : (names : List Name) (name : Name) → length names ≤ length (names ++ name ∷ [])
 one_more [] name = omega arith
@@ -115,7 +115,7 @@ none_first e = omega (arith, e)
 others_all : {A : Type 0} (item : A) (items : List A) → take (length (item ∷ items) - 1) items ≡ items
 others_all item items = take_all (length (item ∷ items) - 1) items (omega arith)
 
--- of a list as a slice has it: the first item, and those after it
+-- the same for a list that the code splits into its first item and the items after it
 module _ {A : Type 0} (symbol_uses : A → List SymbolUse) (items : List A) (item other : A) (old : UsedNames)
     (result : Result (Unit {0}) AsmFault) where
   pub failed_item : (new : UsedNames) (fault : AsmFault) → 1 ≤ length items → get_or items 0 other ≡ item
@@ -174,7 +174,7 @@ failed_symbol context (found ∷ symbols) symbol other old new fault result some
     let P : Symbol → Type 0 = λ s. Refuses fault (most_names < length (with_all (symbol_use context s ∷ []) old).names) ⊥ in
     failed_first (symbol_use context found ∷ []) (in_context context symbols) old new fault result (subst P (sym first) refuses) is
 
--- ---- memory is refused at a label, and up to it no name is one too many
+-- ---- memory is refused at a label, and the names up to that label are within the limit
 
 pub first_label : (symbol_uses : Label → List SymbolUse) (labels : List Label) (other : Label) (old : UsedNames) → 1 ≤ length labels
     → length (with_all (symbol_uses (get_or labels 0 other)) old).names ≤ most_names

@@ -22,7 +22,7 @@ use Rattle.m11_asm_lines.specs.Faults.{HasTooMany}
 use Rattle.m11_asm_lines.specs.Labels.{FitsUpToLabel}
 use Rattle.m11_asm_lines.specs.Moved.{moved_flags, moved_kind}
 
--- ---- labels leave a table that defines at least as many
+-- ---- after labels a table defines at least as many names and local symbols as before
 
 counts_more : (key : Key) (definition : Definition) (table : Table) → AtLeast table (with_definition key definition table)
 counts_more key definition table =
@@ -64,7 +64,7 @@ labels_count line table (label ∷ labels) =
     let symbols_then = more.symbols in
     record { names = omega (arith, names, names_then); symbols = omega (arith, symbols, symbols_then) }
 
--- ---- labels as a slice has them: the first one, and those after it
+-- ---- labels that the code splits into the first one and the labels after it
 
 others_all : (label : Label) (others : List Label) → take (length (label ∷ others) - 1) others ≡ others
 others_all label others = take_all (length (label ∷ others) - 1) others (omega arith)
@@ -111,7 +111,7 @@ first_refused line table (label ∷ others) other fault some refuses =
     refuses_more fault (with_label line table label) (with_labels line table (label ∷ others))
     (labels_count line (with_label line table label) others) refuses
 
--- ---- memory is refused at a label, and up to it there are no more names or local symbols than may be
+-- ---- memory is refused at a label, and the names and local symbols up to that label are within the limits
 
 pub first_fits : (line : Bytes) (table : Table) (labels : List Label) (other : Label) → 1 ≤ length labels
     → has_too_many (with_label line table (get_or labels 0 other)) ≡ false

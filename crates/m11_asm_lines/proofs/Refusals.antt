@@ -1,4 +1,4 @@
--- A fault that is handed on refuses what it refused, and what fits where memory is refused.
+-- A fault that a call passes on means what it meant where it arose; and what is within the limits when memory is refused.
 use Rattle.std.proofs.Common.{◌≡◌, ◌<◌, ◌≤◌, ℕ, ◌+◌, List, [], ◌∷◌, ◌++◌, length, Option, Some, None, Result, Ok, Err, IfErr, IsErrAnd, refl, sym, subst, arith}
 use Rattle.std.proofs.lemmas.List.{length-append}
 use Rattle.m11_asm_rules.specs.Changes.{with_new}
@@ -13,7 +13,7 @@ handed_on P fault (Err other) holds is = subst P (sym is) holds
 
 -- ---- where memory is refused
 
--- what holds anyway
+-- a fact that holds in any case holds if memory is refused
 pub fits_anyway : {A : Type 0} (fits : Type 0) (result : Result A AsmFault) → fits → IfErr result (λ fault. fault ≡ NoMemory → fits)
 fits_anyway fits (Ok value) holds = tt
 fits_anyway fits (Err fault) holds = λ none. holds
@@ -23,7 +23,7 @@ pub refused_so : {A : Type 0} (result : Result A AsmFault) (one other : Type 0) 
 refused_so (Ok value) one other so fits = tt
 refused_so (Err fault) one other so fits = λ none. so (fits none)
 
--- a section that is known, or for which there is room
+-- there are at most 64 sections after one is selected, if it is known or there is room for it
 new_fits : (found : Option ℕ) (new : Section) (sections : List Section) → length sections ≤ 64 → (found ≡ None → length sections < 64)
     → length (with_new found new sections) ≤ 64
 new_fits (Some number) new sections few room = few

@@ -41,7 +41,7 @@ many_symbols table many =
     ap (λ (b : Bool). nat_lt most_defined_names (name_count table) || b) (past most_local_symbols (local_count table) many)
     ∙ or_true (nat_lt most_defined_names (name_count table))
 
--- ---- a table that has at least as many
+-- ---- a table that defines at least as many names and local symbols as another
 
 pub record AtLeast (one other : Table) : Type 0 where
   pub names : name_count one ≤ name_count other
@@ -64,21 +64,21 @@ many_more one other more many =
     (past_more most_defined_names (name_count one) (name_count other) more.names)
     (past_more most_local_symbols (local_count one) (local_count other) more.symbols) many
 
--- ---- a refusal by a table is one by each that has at least as many
+-- ---- a fault that refuses a table refuses each table that defines at least as many names and local symbols
 
 pub refuses_more : (fault : AsmFault) (one other : Table) → AtLeast one other → HasTooMany fault one → HasTooMany fault other
 refuses_more TooManySymbols one other more refuses = many_more one other more refuses
 refuses_more NoMemory one other more refuses = tt
 refuses_more other_fault one other more refuses = refuses
 
--- and one of too many symbols is one of a change
+-- a fault that refuses definitions refuses a change with the same table after it
 pub overfills : (fault : AsmFault) (after : Table) → HasTooMany fault after → Overfills fault after
 overfills TooManySymbols after refuses = refuses
 overfills TooManySections after refuses = absurd refuses
 overfills NoMemory after refuses = tt
 overfills other after refuses = refuses
 
--- ---- a definition for which there is no room, or some
+-- ---- a definition for which there is no room, or for which there is room
 
 pub full : (after : Table) → has_too_many after ≡ true → OverfillsFirst TooManySymbols after
 full after many = record { overfills = many; limits_first = λ none. absurd (other_fault none) }

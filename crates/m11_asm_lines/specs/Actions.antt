@@ -1,4 +1,5 @@
--- How definitions see the text after the labels of a line. (MACRO-11 Language Reference Manual, "Operator field".)
+-- The code's actions and operations, which it reads from the text after the labels of a line, as the definitions represent them. (MACRO-11
+-- Language Reference Manual, "Operator field".)
 use Rattle.std.specs.Prelude.{◌≡◌, Bool, true}
 use Rattle.m11_base.specs.Devices.{Bytes}
 use Rattle.m11_scan.specs.Views.{bits_of}

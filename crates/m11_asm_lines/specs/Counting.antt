@@ -10,7 +10,7 @@ use Rattle.m11_asm_lines.specs.UsedSymbols.{UsedNames, no_used_names, with_all}
 use Rattle.m11_asm_lines.specs.declared.counting.Counting.{Counting}
 use Rattle.m11_asm_lines.specs.declared.counting.Counting.TheVariants.{SymbolUses, Definitions}
 
--- the count before the first line of a first pass
+-- the names counted before the first line of a first pass: none
 abbrev pub none_used : Counting
 none_used = SymbolUses no_used_names
 
@@ -22,7 +22,7 @@ used_names_in Definitions = no_used_names
 abbrev pub names_counted : Counting → List Name
 names_counted counting = (used_names_in counting).names
 
--- a count with further uses of symbols; a second pass doesn't count them
+-- the names counted, with those that further uses of symbols add; a second pass doesn't count these
 abbrev pub with_counted : List SymbolUse → Counting → Counting
 with_counted symbol_uses (SymbolUses used_names) = SymbolUses (with_all symbol_uses used_names)
 with_counted symbol_uses Definitions = Definitions

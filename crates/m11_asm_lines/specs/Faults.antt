@@ -5,8 +5,8 @@ use Rattle.m11_asm_faults.specs.declared.fault.AsmFault.TheVariants.{TooManySymb
 use Rattle.m11_asm_rules.specs.Limits.{has_too_many, most_sections}
 use Rattle.m11_asm_rules.specs.Tables.{Table}
 
--- the fault of a line: `TooManySymbols` only if the first condition holds, `TooManySections` only if the second does, or `NoMemory` at any
--- time; a line has no other fault
+-- a line can have this fault: `TooManySymbols` only if the first condition holds, `TooManySections` only if the second one does, and
+-- `NoMemory` at any time; a line has no other fault
 abbrev pub Refuses : AsmFault → Type 0 → Type 0 → Type 0
 Refuses TooManySymbols symbols sections = symbols
 Refuses TooManySections symbols sections = sections

@@ -32,7 +32,7 @@ abbrev pub is_at : ℕ → Standing → Bool
 is_at location (Known number kind) = number == location
 is_at location Unknown = false
 
--- whether there is a definition, and it is a label's, at the location counter: in the current section, at its location
+-- whether there is a definition, and it is that of a label at the location counter: in the current section, with the counter as its value
 abbrev pub is_location_of : Table → Option Definition → Bool
 is_location_of table (Some definition) = is_in (section_name table) definition.label && is_at (location table) definition.standing
 is_location_of table None = false

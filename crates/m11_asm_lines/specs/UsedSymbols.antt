@@ -14,8 +14,8 @@ use Rattle.m11_asm_lines.specs.Faults.{Refuses}
 use Rattle.m11_scan_expressions.specs.declared.names.Symbol.{Symbol}
 use Rattle.m11_scan_expressions.specs.declared.names.Symbol.TheVariants.{Ordinary}
 
--- names besides those of the registers, names of registers, and names used where an undefined name refers to another object: each once,
--- in order of appearance
+-- names besides those of the registers, names of registers, and names used in places where an undefined name would refer to another object:
+-- each once, in order of appearance
 pub record UsedNames : Type 0 where
   pub names : List Name
   pub registers : List Name
@@ -46,14 +46,14 @@ abbrev pub names_referred : List SymbolUse → List Name → List Name
 names_referred symbol_uses names =
     fold (λ known symbol_use. with_reference symbol_use.symbol symbol_use.context known) names symbol_uses
 
--- the used names with a name that a line uses in any context: the name of a register, or another name
+-- the used names after a line uses this name, in whatever context: it is added to the names of registers or to the other names
 abbrev pub with_name_used : Name → UsedNames → UsedNames
 with_name_used name used_names = record used_names {
   names = with_symbol (Ordinary name) used_names.names;
   registers = with_register (Ordinary name) used_names.registers;
 }
 
--- the used names with a name as a reference, if an undefined name would refer to another object in this context
+-- the used names, with this name added to the references if an undefined name would refer to another object in this context
 abbrev pub with_referred : Name → Context → UsedNames → UsedNames
 with_referred name context used_names = record used_names { referred = with_reference (Ordinary name) context used_names.referred }
 

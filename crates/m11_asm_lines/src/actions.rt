@@ -49,7 +49,7 @@ struct Reading {
     flags: ErrorFlags,
 }
 
-/// What a line does after its labels, with its arguments. All lines of a pass share one, since it owns the storage of lists.
+/// What a line does after its labels, with its arguments. All lines of a pass share one value, since it owns the storage of lists.
 #[derive(Drop)]
 pub struct Operation {
     /// What it does.
@@ -75,9 +75,9 @@ impl Operation {
         }
     }
 
-    /// Reads what a line does after its labels, once for all uses. `body` is the kind of the text after the labels. The table is the one
-    /// after the line's labels: the forms of operands depend on it. `actuals` is the number of actuals of the macro around the line, if
-    /// there is one. A line that unfolding has handled (`is_own`), such as a macro call, does nothing more.
+    /// Reads what a line does after its labels, once for all uses. `body` is the kind of the text after the labels. `table` is the table
+    /// after the line's labels, on which the forms of operands depend. `actuals` is the number of actuals of the innermost macro call
+    /// around the line, if there is one. A line that unfolding has handled (`is_own`), such as a macro call, does nothing more.
     pub fn read(
         &mut self,
         table: &Table,

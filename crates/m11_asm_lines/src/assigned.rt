@@ -29,8 +29,8 @@ use m11_scan_expressions::{Expr, Remarks, Symbol, Value, symbol_of};
 use std::alloc::{AllocError, Global};
 
 impl Pass {
-    // Applies an assignment, and returns the item that a listing shows for its value: none for an unknown value, but one even for a value
-    // that its name doesn't get. The value is computed once, for the name and for the item. Errors: `TooManySymbols` and `NoMemory`.
+    // Applies an assignment, and returns the item that a listing shows for its value: None if the value is unknown, but an item even if the
+    // name doesn't get the value. The value is computed once, for the name and for the item. Errors: `TooManySymbols` and `NoMemory`.
     pub(crate) fn apply_assignment(
         &mut self,
         map: &Map<'_>,

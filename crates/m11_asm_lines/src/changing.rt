@@ -36,9 +36,9 @@ use m11_scan_expressions::{Expr, Kind};
 use m11_scan_statements::Span;
 
 impl Pass {
-    /// Applies the action of a line to the table after its labels. Returns what a listing shows of an assignment: its value if that is
-    /// known, even if the name doesn't get it, or the number of `.NARG` and `.NCHR`; None for any other action. Only the value of an
-    /// assignment may depend on names that aren't firm.
+    /// Applies the action of a line to the table after the line's labels. Returns the item that a listing shows: for an assignment its
+    /// value, if that is known, even if the name doesn't get it; for `.NARG` and `.NCHR` the number that they assign; otherwise None. Only
+    /// the value of an assignment may depend on names that aren't firm.
     ///
     /// Errors: `TooManySymbols` if more than 4,096 names besides those of the registers would be defined, `TooManySections` if a 65th
     /// section would be selected, and `NoMemory`.
@@ -78,7 +78,7 @@ impl Pass {
         }
     }
 
-    // Applies `.=` to the location counter. A location outside the current section changes nothing.
+    // Applies `.=` to the location counter. A value that isn't a location of the current section changes nothing.
     fn apply_counter(&mut self, line: &Line, place: Expr)
         ensures { (map : LineMap) → self.new
             ≡ after_action map line.now.text (SetCounter (expression_of line.now.text place)) self.old }
@@ -106,8 +106,8 @@ impl Pass {
         }
     }
 
-    // Applies what a directive sets, with the names of its list, and returns what a listing shows of a number that it assigns. Errors are
-    // those of `apply_action`.
+    // Applies what a directive sets, with the names of its list, and returns the item that a listing shows for a number that it assigns;
+    // None if it assigns none. Errors are those of `apply_action`.
     fn apply_setting(
         &mut self,
         line: &Line,
@@ -157,8 +157,8 @@ impl Pass {
         }
     }
 
-    /// Moves the counter past an instruction with these fields, whose name ends at the column `start`, and past the byte skipped before the
-    /// instruction, if any. This does what `apply_action` does for an instruction.
+    /// Moves the counter past an instruction, and past the byte skipped before it, if any. The name of the instruction ends at the column
+    /// `start`, and `fields` are its fields. This does what `apply_action` does for an instruction.
     // speed: without a result, which would pass through memory.
     pub fn step_over(&mut self, line: &Line, start: u8, operation: Op, fields: &Fields)
         requires { fields_seen line.now.text fields.now ≡ line_fields self.old line.now.text start operation }
@@ -193,8 +193,8 @@ impl Pass {
     }
 }
 
-// The modes with the listing level raised (true) or lowered (false). Each direction has its own count, which stops at the greatest number
-// of 64 bits.
+// The modes with the listing level raised (true) or lowered (false). Each direction has its own count, which stops at the greatest 64-bit
+// number.
 fn with_level(goes_up: bool, modes: Modes) -> Modes
     ensures { result ≡ with_level goes_up modes }
 {
@@ -211,7 +211,7 @@ fn with_level(goes_up: bool, modes: Modes) -> Modes
     }
 }
 
-// The definition of a name as a number: always firm.
+// The definition of a name as an absolute number, which is always firm.
 fn numbered(number: u16) -> Definition
     ensures { result ≡ numbered number }
 {

@@ -20,7 +20,7 @@ use std::alloc::Global;
 pub enum Counting {
     /// The names that its lines use, in a first pass.
     SymbolUses(UsedSymbols),
-    /// No others, in a second pass, which doesn't collect the names that its lines use.
+    /// No other names, in a second pass, which doesn't collect the names that its lines use.
     Definitions,
 }
 

@@ -50,8 +50,8 @@ pub fn instruction_steps(
     u32::from(passed) + u32::from(size)
 }
 
-/// Emits what a directive stores at the location counter, with its flags besides those in `Storing::flags`. At an odd location, words that
-/// are stored or reserved begin at the next even one, and the line is flagged B. Error: memory may be refused.
+/// Emits what a directive stores at the location counter, with those of its flags that aren't in `Storing::flags`. At an odd location,
+/// words that are stored or reserved begin at the next even one, and the line is flagged B. Error: memory may be refused.
 pub fn emit_storage(
     emission: &mut Emission,
     map: &Map<'_>,
@@ -69,8 +69,8 @@ pub fn emit_storage(
     storage.emit(emission, &line_context, arguments)
 }
 
-/// Emits the words of an instruction with these fields, and its flags; its name ends at the column `start`. At an odd location, the words
-/// go to the next even one, and the line is flagged B. Error: memory may be refused.
+/// Emits the words of an instruction, and its flags. The name of the instruction ends at the column `start`, and `fields` are its fields.
+/// At an odd location, the words go to the next even one, and the line is flagged B. Error: memory may be refused.
 pub fn emit_operation(
     emission: &mut Emission,
     map: &Map<'_>,

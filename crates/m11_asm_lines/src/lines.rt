@@ -21,8 +21,8 @@ use m11_scan_expressions::skip_flags;
 use m11_scan_statements::{Body, Span};
 use std::alloc::AllocError;
 
-/// Adds what the action of a line emits, and its flags besides those in `Operation::flags`. The map has the final values of the names of
-/// the source. Error: memory may be refused.
+/// Adds what the action of a line emits, and those flags of the action that aren't in `Operation::flags`. The map has the final values of
+/// the names of the source. Error: memory may be refused.
 pub fn emit_action(
     emission: &mut Emission,
     map: &Map<'_>,
@@ -61,8 +61,8 @@ fn emit_flags(emission: &mut Emission, flags: ErrorFlags) -> Result<(), AllocErr
     Ok(())
 }
 
-// The flags of a setting besides those in `Effect::flags`: A for an attribute that a known section doesn't have, the flags of a name that
-// is assigned a number, and N, Q and T of the transfer address.
+// The flags of a setting that aren't in `Effect::flags`: A for an attribute that a known section doesn't have, the flags of a name that is
+// assigned a number, and those of N, Q and T that the transfer address has.
 fn setting_flags(
     map: &Map<'_>,
     table: &Table,
@@ -87,9 +87,9 @@ fn setting_flags(
     }
 }
 
-/// The flags of a line: `own`, which it has whatever its body does; `labels`, those of labels defined before; `operation`, those of the
-/// operation's text; `emission`, those of what the line emits; and `noted`, those that unfolding found. I is added for characters skipped
-/// after the labels, and before the operator if there is one.
+/// The flags of a line: `own`, those that don't depend on its body; `labels`, those of labels that were defined before; `operation`, those
+/// of the operation's text; `emission`, those of what the line emits; and `noted`, those that unfolding found. I is added for characters
+/// skipped after the labels, and before the operator if there is one.
 pub fn line_flags(
     line: &Line,
     labels_end: u8,

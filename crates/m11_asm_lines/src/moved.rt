@@ -18,7 +18,7 @@ pub(crate) fn moved_flag(map: &Map<'_>, table: &Table, key: &Key) -> ErrorFlags
     ErrorFlags::P.when(!is_location_of(table, map.definition(key)))
 }
 
-// Whether there is a definition, and it is a label's, at the location counter.
+// Whether there is a definition, and it is that of a label at the location counter.
 fn is_location_of(table: &Table, found: Option<&Definition>) -> bool
     ensures { result ≡ spec.is_location_of table.now (option_copied found.entry) }
 {

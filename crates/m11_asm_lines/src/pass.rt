@@ -67,14 +67,14 @@ impl Pass {
         self.table.seed()
     }
 
-    /// The table that the lines so far leave for the next one.
+    /// The table after the lines so far.
     pub fn table(&self) -> &Table
         ensures { result.now ≡ self.now }
     {
         &self.table
     }
 
-    // Sets the last definition of a name. Errors: `TooManySymbols` if the name would be one too many, and `NoMemory`.
+    // Sets the last definition of a name. Errors: `TooManySymbols` if more than 4,104 names would be defined, and `NoMemory`.
     pub(crate) fn define_name(&mut self, name: Name, definition: Definition) -> Result<(), AsmFault>
         ensures defines { IfOk result (λ _. self.new ≡ with_definition (Named name) definition self.old) }
         ensures refuses { IfErr result (λ fault. OverfillsFirst fault (with_definition (Named name) definition self.old)) }
@@ -90,7 +90,8 @@ impl Pass {
         Ok(())
     }
 
-    // Sets the last definition of a local symbol. Errors: `TooManySymbols` if the symbol would be one too many, and `NoMemory`.
+    // Sets the last definition of a local symbol. Errors: `TooManySymbols` if more than 16,384 local symbols would be defined, and
+    // `NoMemory`.
     pub(crate) fn define_symbol(
         &mut self,
         block: u64,
@@ -165,8 +166,8 @@ impl Pass {
         self.table.set(modes);
     }
 
-    // Selects a section, and begins a new block of local symbols. A new section gets these attributes. Errors: `TooManySections` if the
-    // section would be one too many, and `NoMemory`.
+    // Selects a section, and begins a new block of local symbols. A new section gets these attributes. Errors: `TooManySections` if there
+    // would be more than 64 sections, and `NoMemory`.
     pub(crate) fn select(&mut self, name: Name, attributes: u8) -> Result<(), AsmFault>
         ensures selects { IfOk result (λ _. self.new ≡ with_section name attributes self.old) }
         ensures refuses { IfErr result (λ fault. Overfills fault (with_section name attributes self.old)) }

@@ -94,8 +94,8 @@ impl UsedSymbols {
         }
     }
 
-    // Adds the symbols that a setting uses: the names of its list that it makes global, the name that it assigns a number, or those in the
-    // transfer address. Errors are those of `add_all`.
+    // Adds the symbols that a setting uses: the names that it makes global, the name to which it assigns a number, or the symbols in the
+    // expression of the transfer address. Errors are those of `add_all`.
     // speed: a call, since inlined it would make every line save the registers that it needs.
     #[inline(never)]
     fn add_setting(
@@ -143,7 +143,7 @@ impl UsedSymbols {
         }
     }
 
-    // Adds the name of an assignment, and the symbols that its value reads. Errors are those of `add_all`.
+    // Adds the name of an assignment, and the symbols in its expression. Errors are those of `add_all`.
     // speed: a call, since inlined it would make every line save the registers that it needs.
     #[inline(never)]
     fn add_assignment(
@@ -158,7 +158,7 @@ impl UsedSymbols {
         self.read(line, place, Context::LocalOnly)
     }
 
-    // Adds the symbols that an expression reads. Errors are those of `add_all`.
+    // Adds the symbols in an expression. Errors are those of `add_all`.
     // speed: most expressions are a single term, for which no list of symbols is made.
     fn read(&mut self, line: &Line, place: Expr, context: Context) -> Result<(), AsmFault>
         ensures { Adds (spec.reads context (expression_of line.now.text place)) self.old self.new result }

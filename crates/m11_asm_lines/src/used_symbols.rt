@@ -25,7 +25,7 @@ pub struct UsedSymbols {
     // The names besides those of the registers.
     names: SeededSet<Name>,
     registers: SeededSet<Name>,
-    // The names used where an undefined name refers to another object.
+    // The names used in places where an undefined name would refer to another object.
     referred: SeededSet<Name>,
 }
 
@@ -76,7 +76,7 @@ impl UsedSymbols {
         &self.registers
     }
 
-    /// The names used where an undefined name refers to another object.
+    /// The names used in places where an undefined name would refer to another object.
     pub fn referred(&self) -> &SeededSet<Name>
         ensures { result.now.keys ≡ self.now.referred }
     {
@@ -110,8 +110,8 @@ impl UsedSymbols {
         }
     }
 
-    /// Adds a used symbol, if it is a name: a local symbol and `.` aren't counted. Errors are those of `add_all`, but `NoMemory` only if
-    /// the names are within the limit.
+    /// Adds a used symbol, if it is a name: a local symbol and `.` aren't counted. Errors are those of `add_all`, but `NoMemory` is
+    /// returned only if the names with this one are within the limit.
     pub fn add(&mut self, symbol: Symbol, context: Context) -> Result<(), AsmFault>
         ensures adds { Adds (symbol_use context symbol ∷ []) self.old self.new result }
         ensures limit_first { IfErr result (λ fault. fault ≡ NoMemory
@@ -174,7 +174,7 @@ impl UsedSymbols {
         Ok(())
     }
 
-    // Adds a name that isn't a register's. Errors: `TooManySymbols` if it would be one name too many, and `NoMemory`.
+    // Adds a name that isn't a register's. Errors: `TooManySymbols` if there would be more than 4,096 such names, and `NoMemory`.
     fn count_name(&mut self, name: Name) -> Result<(), AsmFault>
         ensures inserts { IfOk result (λ _. self.new ≡ record self.old { names = spec.with_name name self.old.names }) }
         ensures refuses { IfErr result (λ fault. Refuses fault

@@ -17,7 +17,8 @@ mark_character OfSection = 0o47
 mark_character OfObject = 0o107
 mark_character OfRegister = 0o45
 
--- 8 columns: six octal digits of a word after a blank, or three of a byte after four blanks, and then the mark; blank without an item
+-- 8 columns: for a word, a blank, six octal digits and the mark; for a byte, four blanks, three octal digits and the mark; without an item,
+-- blanks
 abbrev pub item_column : Option Item → Bytes
 item_column None = blanks 8
 item_column (Some (InByte byte mark)) = blanks 4 ++ map (octal_digit byte) (2 ∷ 1 ∷ 0 ∷ []) ++ mark_character mark ∷ []

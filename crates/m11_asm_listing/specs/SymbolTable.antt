@@ -53,7 +53,7 @@ symbol_line symbol =
     line_of (name_text symbol.name ++ (if symbol.is_assigned then codes " = " else codes "   ") ++ value_column symbol.value
     ++ (0o40 ∷ kind_character symbol.value ∷ (if symbol.is_global then 0o107 else 0o40) ∷ 0o40 ∷ []) ++ section_column symbol.value)
 
--- the line of a section: its name, size and number, with a blank after each, and its attributes
+-- the line of a section: its name, its size in octal and its number, with a blank after each, and its attributes
 abbrev pub section_line : SectionEntry → Bytes
 section_line section =
     line_of (name_text section.name ++ blanks 1 ++ octal_text section.size ++ blanks 1 ++ number_column section.number ++ blanks 1

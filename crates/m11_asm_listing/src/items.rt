@@ -1,4 +1,4 @@
-//! The bytes and words that a listed line emits or assigns, each with a mark of relocation.
+//! The bytes and words that a listed line emits or assigns, each with a mark for its relocation.
 
 ghost use Rattle.std.specs.Prelude.{◌≡◌, ◌≤◌, ◌+◌, ◌++◌, Some};
 ghost use Rattle.std.specs.List.{slice_get};

@@ -1,4 +1,4 @@
-//! Laws of printed lines. Each is the contract of a function with an empty body.
+//! Laws of printed lines. Each is the contract of a function that does nothing.
 
 ghost use Rattle.std.specs.Prelude.{◌≡◌, ◌≢◌, ◌<◌, ◌≤◌, ◌+◌, ℕ, List, [], ◌∷◌, ◌++◌, codes, length, take, drop};
 ghost use Rattle.std.specs.Fmt.{decimal};
@@ -13,18 +13,19 @@ ghost use Rattle.m11_asm_listing.specs.Listing.{further_line, further_lines, lis
 ghost use Rattle.m11_asm_listing.specs.Messages.{message_line};
 ghost use Rattle.m11_asm_listing.specs.SymbolTable.{section_line, symbol_line};
 
-/// A listed line has its text, at most 42 other characters and a line feed.
+/// A listed line has at most 42 characters besides those of its text and the line feed.
 pub fn a_listed_line_has_at_most_42_characters_and_its_text()
     ensures { (flags : Bytes) (number location : ℕ) (items : List Item) (text : Bytes) → number < 65536
         → length (listed_line flags number location items text) ≤ 42 + length text + 1 }
 {}
 
-/// A further line has at most 41 characters and a line feed.
+/// A further line has at most 41 characters before its line feed.
 pub fn a_further_line_has_at_most_41_characters()
     ensures { (location : ℕ) (items : List Item) → length (further_line location items) ≤ 41 + 1 }
 {}
 
-/// The text of a listed line begins in column 43, whatever its flags and items. Here the text doesn't end with a blank.
+/// If the text of a listed line isn't empty and doesn't end with a blank, it begins in column 43, whatever the flags and items of the line
+/// are.
 pub fn the_text_of_a_listed_line_begins_in_column_43()
     ensures { (flags : Bytes) (number location : ℕ) (items : List Item) (text : Bytes) (last : ℕ) → number < 65536 → last ≢ 32
         → drop 42 (listed_line flags number location items (text ++ last ∷ [])) ≡ printed (text ++ last ∷ []) ++ 10 ∷ [] }
@@ -40,14 +41,14 @@ pub fn no_line_ends_with_a_blank()
     ensures section { (section : SectionEntry) → EndsWithNoBlank (section_line section) }
 {}
 
-/// A message has its flags, its number and its text. Here the text doesn't end with a blank.
+/// If the text of a flagged line isn't empty and doesn't end with a blank, the message shows the flags, the number and all of the text.
 pub fn a_message_shows_its_text()
     ensures { (flags : Bytes) (number : ℕ) (text : Bytes) (last : ℕ) → last ≢ 32
         → message_line flags number (text ++ last ∷ [])
         ≡ (flags ++ codes " " ++ decimal number ++ codes ": " ++ printed (text ++ last ∷ [])) ++ 10 ∷ [] }
 {}
 
-/// Each further line shows the location of its first item, and then three items, or those that are left.
+/// Each further line shows the location of its first item, and then three items, or all that remain if there are fewer.
 pub fn further_lines_go_by_threes()
     ensures { (location : ℕ) (first : Item) (items : List Item) → further_lines location (first ∷ items)
         ≡ further_line location (first ∷ items)

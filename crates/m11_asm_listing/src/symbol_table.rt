@@ -31,7 +31,7 @@ pub enum SymbolValue {
 pub struct SymbolEntry {
     /// The name, of six characters.
     pub name: Name,
-    /// Whether the name is defined, and its last definition isn't a label.
+    /// Whether the name is defined, and its last definition isn't that of a label.
     pub is_assigned: bool,
     /// The value at the end of the first pass.
     pub value: SymbolValue,
@@ -46,7 +46,8 @@ pub struct SectionEntry {
     pub name: Name,
     /// The size in bytes: the greatest location that the section's counter had after a line.
     pub size: u16,
-    /// The number, at most 63, in the order in which sections appear.
+    /// The section's number, from 0 to 63: 0 for the absolute section, 1 for the blank one, and the next numbers for the others, in the
+    /// order in which they appear.
     pub number: u8,
     /// The attributes from the first directive that names the section; later ones change none. Those of the absolute and the blank section
     /// are fixed.

@@ -1,4 +1,4 @@
--- Emissions in parts join to the emission of the whole.
+-- Emissions of parts, one after another, are the emission of the whole.
 use Rattle.std.proofs.Common.{◌≡◌, ℕ, List, [], ◌++◌, sym, ap, ◌∙◌}
 use Rattle.std.proofs.lemmas.List.{append-nil, append_assoc}
 use Rattle.std.specs.Int.Bits.{or_zero_r}
@@ -21,7 +21,7 @@ followed_nothing a =
 pub flagged : (a : Emission) (flags : ℕ) → emission a.contents (bit_or a.flags flags) ≡ followed_by a (nothing flags)
 flagged a flags = ap (λ (s : List PieceContent). emission s (bit_or a.flags flags)) (sym (append-nil a.contents))
 
--- flags, one part and another, added one after another, join to one emission
+-- flags and then two parts, added one after another, are one emission of the two parts with these flags
 pub flagged_parts : (old flagged coded code words : Emission) (bits flags : ℕ) → flagged ≡ followed_by old (nothing bits)
     → bits ≡ flags → coded ≡ followed_by flagged code
     → followed_by coded words ≡ followed_by old (with_flags flags (followed_by code words))
@@ -31,7 +31,7 @@ flagged_parts old flagged coded code words bits flags are same adds =
     ∙ followed_joins (followed_by old (nothing flags)) code words
     ∙ followed_joins old (nothing flags) (followed_by code words)
 
--- flags, and then the part that they belong to
+-- flags and then the part that they belong to are one emission of that part with these flags
 pub flagged_by : (old flagged what other : Emission) (bits flags : ℕ) → flagged ≡ followed_by old (nothing bits) → bits ≡ flags
     → what ≡ other → followed_by flagged what ≡ followed_by old (with_flags flags other)
 flagged_by old flagged what other bits flags are same is =

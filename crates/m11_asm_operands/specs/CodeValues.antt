@@ -9,11 +9,11 @@ use Rattle.m11_asm_rules.specs.declared.operands.Form.{Form}
 use Rattle.m11_asm_rules.specs.declared.operands.Form.TheVariants.{Absent, InRegister, Indexed, Unindexed, AfterCounter}
 use Rattle.m11_scan_expressions.specs.Quantities.{Quantity, absolute}
 
--- the value of a field without a register, a target or a number: 0
+-- the value of a field from which the instruction's code needs no register, target or number: 0
 abbrev pub no_value : Quantity
 no_value = absolute 0 0
 
--- the value of the register of a form, or 0 if it has none
+-- the value of the register of a form, or 0 if the form has none
 abbrev pub form_value : LineContext → Form Expression → Quantity
 form_value line_context Absent = no_value
 form_value line_context (InRegister kind register) = value line_context.known register

@@ -1,5 +1,5 @@
--- The elements of a list as the definitions see them, and the comma after an element. (MACRO-11 Language Reference Manual, ".WORD
--- directive".)
+-- The code's elements of a list, as the definitions represent them, and the comma after an element. (MACRO-11 Language Reference Manual,
+-- ".WORD directive".)
 use Rattle.std.specs.Prelude.{◌≡◌, ℕ, if◌then◌else◌, List, map, Option, Some, None}
 use Rattle.m11_base.specs.Devices.{Bytes}
 use Rattle.m11_scan.specs.declared.cutting.Token.{Token}
@@ -17,7 +17,7 @@ pub record AreElements (line : Bytes) (start : ℕ) (read : code.Elements) : Typ
   pub list : elements_seen line read.list.items ≡ (elements_at line start).list
   pub end : read.end ≡ (elements_at line start).end
 
--- the column after a token, if it is a comma
+-- the column after a token that is a comma; None for any other token, and without a token
 abbrev pub end_of_comma : Option Token → Option ℕ
 end_of_comma (Some token) = if is_comma token.sort then Some token.end else None
 end_of_comma None = None

@@ -1,4 +1,5 @@
--- How definitions see the context of a line in the code, and which names are known there. (MACRO-11 Language Reference Manual, "Symbols".)
+-- The code's context of a line, as the definitions represent it, and which names are known there. (MACRO-11 Language Reference Manual,
+-- "Symbols".)
 use Rattle.std.specs.Prelude.{ℕ}
 use Rattle.m11_base.specs.Devices.{Bytes}
 use Rattle.m11_asm_rules.specs.Codes.{LineContext}

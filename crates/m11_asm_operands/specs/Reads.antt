@@ -1,5 +1,5 @@
--- Operands and fields as the definitions see them: each expression is its tokens. (MACRO-11 Language Reference Manual, "Addressing
--- modes".)
+-- The code's operands and fields, as the definitions represent them: each expression by its tokens. (MACRO-11 Language Reference Manual,
+-- "Addressing modes".)
 use Rattle.std.specs.Prelude.{ℕ, ◌*◌, ◌&&◌, not, Bool}
 use Rattle.m11_base.specs.Devices.{Bytes}
 use Rattle.m11_scan.specs.Cutting.{Lexeme}

@@ -36,7 +36,8 @@ pub(crate) fn branch_reaches(table: &Table, location: u16, target: &Value) -> bo
     table.is_here(target.kind) && in_reach(distance(location, target.number))
 }
 
-// The offset of a branch: the distance to its target in words, as eight bits; 0 for a target out of reach.
+// The offset of a branch: the distance in words from the location after it to its target, as eight bits in two's complement; 0 for a target
+// out of reach.
 pub(crate) fn branch_offset(table: &Table, location: u16, target: &Value) -> u8
     ensures { result ≡ spec.branch_offset table.now location (quantity target.now) }
 {

@@ -12,14 +12,14 @@ use m11_asm_rules::{Field, Form};
 use m11_scan::ErrorFlags;
 use m11_scan_expressions::{Expr, Value};
 
-// The value of a field without a register, a target or a number: 0.
+// The value of a field from which the instruction's code needs no register, target or number: 0.
 fn no_value() -> Value
     ensures { quantity result ≡ spec.no_value }
 {
     Value::absolute(0, ErrorFlags::none())
 }
 
-// The value of the register of a form, or 0 if it has none.
+// The value of the register of a form, or 0 if the form has none.
 fn form_value(line_context: &LineContext, form: Form<Expr>) -> Value
     ensures { quantity result ≡ spec.form_value (line_context_of line_context.now) (form_seen line_context.now.line form) }
 {
@@ -31,7 +31,7 @@ fn form_value(line_context: &LineContext, form: Form<Expr>) -> Value
     }
 }
 
-// The value of the register, the target or the number of a field, or 0 if it has none.
+// The value of the register, the target or the number of a field, or 0 if the field has none.
 // speed: a call would pass the value through memory.
 #[inline(always)]
 pub(crate) fn field_value(line_context: &LineContext, field: Field<Expr>) -> Value

@@ -205,7 +205,7 @@ fn numbered_flags(operation: Op, value: &Value) -> ErrorFlags
         .with(limit_flags(operation, value.number))
 }
 
-// The flags of a target with this value: R for a register, and A if it is out of reach.
+// The flags of a target with this value, with R for a register, and A if the target is out of reach.
 fn targeted_flags(line_context: &LineContext, operation: Op, value: &Value) -> ErrorFlags
     ensures { bits_of result ≡ spec.targeted_flags (line_context_of line_context.now) operation (quantity value.now) }
 {
@@ -213,7 +213,7 @@ fn targeted_flags(line_context: &LineContext, operation: Op, value: &Value) -> E
     flags.with(ErrorFlags::A.when(!reaches(line_context, operation, value)))
 }
 
-// The flags of a field with this value. The A of a missing field isn't among them, but in `Fields::flags`.
+// The flags of a field with this value. The flag A for a missing field isn't among them; it is in `Fields::flags`.
 pub(crate) fn field_flags(
     line_context: &LineContext,
     operation: Op,

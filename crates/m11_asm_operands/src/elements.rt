@@ -11,7 +11,7 @@ use m11_scan::{ErrorFlags, LINE_LIMIT, Line, Sort, Token};
 use m11_scan_expressions::{Expr, expr_at, left_over, skip_flags};
 use m11_scan_statements::{Span, listed_name};
 
-/// The most elements that a list may have: one more than the most characters of a line.
+/// The most elements that a list may have: one more than the most characters that a line may have.
 pub const ELEMENT_LIMIT: usize = LINE_LIMIT + 1;
 
 /// The elements of a list of expressions.
@@ -41,8 +41,8 @@ impl Elements {
         }
     }
 
-    /// Reads the elements of a list that begins at a column of a line, at least one, in place of those held before. The list ends after an
-    /// element that no comma follows.
+    /// Reads the elements of a list that begins at a column of a line, in place of those read before. The list has at least one element,
+    /// and ends after an element that no comma follows.
     pub fn read(&mut self, line: &Line, column: u8)
         ensures { AreElements line.now.text column self.new }
     {
@@ -76,8 +76,8 @@ impl ListedNames {
         }
     }
 
-    /// Reads the elements of a list that begins at a column of a line, at least one, in place of those held before. The list ends after an
-    /// element that no comma follows.
+    /// Reads the elements of a list that begins at a column of a line, in place of those read before. The list has at least one element,
+    /// and ends after an element that no comma follows.
     pub fn read(&mut self, line: &Line, column: u8)
         ensures list { self.new.list.items ≡ (spec.names_at line.now.text column).list }
         ensures end { self.new.end ≡ (spec.names_at line.now.text column).end }
@@ -98,7 +98,7 @@ impl ListedNames {
         self.end = begin;
     }
 
-    /// Makes the list empty; it ends at a column of a line.
+    /// Makes the list empty, with `column` as the column where it ends.
     pub fn leave_none(&mut self, column: u8)
         ensures list { self.new.list.items ≡ [] }
         ensures end { self.new.end ≡ column }
@@ -108,14 +108,15 @@ impl ListedNames {
     }
 }
 
-/// I for characters skipped in arguments between two columns, and the flags of what is left over after them.
+/// I for characters skipped in the arguments, which begin at the column `start` and end before the column `end`, and the flags of what is
+/// left over after them.
 pub fn argument_flags(line: &Line, start: u8, end: u8) -> ErrorFlags
     ensures { bits_of result ≡ spec.argument_flags line.now.text start end }
 {
     skip_flags(line, start, end).with(left_over(line, end))
 }
 
-// The column after a token, if it is a comma.
+// The column after a token that is a comma; None for any other token, and without a token.
 fn after_comma(token: Option<Token>) -> Option<u8>
     ensures { result ≡ end_of_comma token }
 {

@@ -38,7 +38,7 @@ pub struct Fields {
 #[derive(Clone, Copy)]
 pub struct FieldAt {
     pub(crate) field: Field<Expr>,
-    // The column after it.
+    // The column after the field.
     pub(crate) end: u8,
     pub(crate) flags: ErrorFlags,
 }
@@ -57,7 +57,7 @@ impl Fields {
     }
 
     /// Reads the fields of an operation, which begin at a column of a line; a comma separates two fields. The forms of operands depend on
-    /// `names`: whether an expression is a register.
+    /// `names`, which decides whether an expression is a register.
     // speed: in place, since a returned value is copied piece by piece
     pub fn read<N: Names>(&mut self, line: &Line, start: u8, operation: Op, names: &N)
         ensures { fields_seen line.now.text self.new
@@ -97,7 +97,7 @@ fn second_kind(operation: Op) -> FieldKind
     }
 }
 
-// The field after another one. It follows a comma; without a comma it is missing.
+// The second field, which comes after a comma; without a comma it is missing.
 // speed: inline, since most instructions have one field, or none, and then nothing is called.
 #[inline(always)]
 fn field_after<N: Names>(line: &Line, end: u8, kind: FieldKind, names: &N) -> FieldAt
@@ -110,7 +110,7 @@ fn field_after<N: Names>(line: &Line, end: u8, kind: FieldKind, names: &N) -> Fi
     }
 }
 
-// The field of a kind after a comma; without a comma it is missing.
+// The field of this kind after a comma; without a comma it is missing.
 // speed: a call, since an inlined result would be copied piece by piece.
 #[inline(never)]
 fn field_by<N: Names>(line: &Line, end: u8, kind: FieldKind, names: &N) -> FieldAt
@@ -145,7 +145,7 @@ fn field_read(field: Field<Expr>, end: u8, flags: ErrorFlags) -> FieldAt
     FieldAt { field, end, flags }
 }
 
-// The field of a kind at a column.
+// The field of this kind at a column.
 fn field_at<N: Names>(line: &Line, start: u8, kind: FieldKind, names: &N) -> FieldAt
     ensures { field_at_seen line.now.text result ≡ spec.field_at
         (known_by (N.base names.now) (N.stands_for names.now)) line.now.text start kind }

@@ -53,8 +53,8 @@ fn emit_code(
     emission.add_word(fixed(code), flags.with(others))
 }
 
-// Emits the word that a field has after the code word, if it has one, with its flags, and returns the location after it. Error: memory may
-// be refused.
+// Emits the word that a field has after the code word, with the word's flags, and returns the location after that word. Without such a
+// word, nothing is emitted, and the location stays the same. Error: memory may be refused.
 fn emit_field(
     emission: &mut Emission,
     line_context: &LineContext,
@@ -90,7 +90,7 @@ fn emit_words_after(
     Ok(())
 }
 
-/// Emits the words of an instruction from its fields, with all flags of the instruction, whose name ends at the column `start`. Error:
+/// Emits the words of an instruction from its fields, with all of its flags. The name of the instruction ends at the column `start`. Error:
 /// memory may be refused.
 pub fn emit_instruction(
     emission: &mut Emission,

@@ -81,8 +81,8 @@ impl<'a> LineContext<'a> {
         self.line
     }
 
-    /// The value of an expression of the line in a register, a target, a number or a code of `.RAD50`, where an undefined name counts as 0,
-    /// with U.
+    /// The value of an expression of the line, used as a register, a target, a number or a code of `.RAD50`. An undefined name counts as 0,
+    /// with the flag U.
     // speed: a call would pass the value through memory.
     #[inline(always)]
     pub fn value(&self, place: Expr) -> Value
@@ -93,7 +93,7 @@ impl<'a> LineContext<'a> {
         place.value(self.line, &names)
     }
 
-    /// The value of an expression of the line in a word or a byte, where an undefined name refers to another object.
+    /// The value of an expression of the line, used as a word or a byte. An undefined name refers to another object.
     // speed: a call would pass the value through memory.
     #[inline(always)]
     pub fn reference(&self, place: Expr) -> Value

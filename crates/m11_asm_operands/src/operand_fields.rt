@@ -24,14 +24,14 @@ use m11_scan::ErrorFlags;
 use m11_scan_expressions::{Expr, Value};
 use std::alloc::AllocError;
 
-// The register of a value. The number of a value that isn't a register is taken modulo 8.
+// The register whose number is that of the value, modulo 8.
 pub(crate) fn register(value: &Value) -> Register
     ensures { result ≡ register_of (value.now.number % 8) }
 {
     Register::of_bits(value.number)
 }
 
-// The flags of a value as a register: its own, and R if it isn't one.
+// The flags of a value as a register: its own, and R if the value isn't a register.
 pub(crate) fn as_register_flags(value: &Value) -> ErrorFlags
     ensures { bits_of result ≡ spec.as_register_flags (quantity value.now) }
 {
@@ -45,7 +45,8 @@ fn operand(mode: Mode, register: Register) -> Operand
     Operand { mode, register }
 }
 
-// The mode and the register of a form whose register has this value; R0 for a missing operand.
+// The mode and the register of a form whose register has this value; R0 for a missing operand, and PC for a form without a register of its
+// own.
 pub(crate) fn operand_of(form: Form<Expr>, value: &Value) -> Operand
     ensures { (line_context : Stated) (line : Bytes) → quantity value.now ≡ form_value line_context (form_seen line form)
         → result ≡ spec.operand_of line_context (form_seen line form) }
@@ -59,7 +60,7 @@ pub(crate) fn operand_of(form: Form<Expr>, value: &Value) -> Operand
     }
 }
 
-// The flags of the register of a form with this value; none if the form has no register.
+// The flags of a form whose register has this value; none if the form has no register.
 pub(crate) fn form_flags(form: Form<Expr>, value: &Value) -> ErrorFlags
     ensures { (line_context : Stated) (line : Bytes) → quantity value.now ≡ form_value line_context (form_seen line form)
         → bits_of result ≡ spec.form_flags line_context (form_seen line form) }
@@ -79,8 +80,8 @@ fn is_relative(mode: Mode) -> bool
     matches!(mode, Mode::Index | Mode::IndexDeferred)
 }
 
-// Emits the word that a form has after the code word, if it has one, at the word's own location, with its flags. `.` in it is the location
-// of the instruction. Error: memory may be refused.
+// Emits the word that a form has after the code word, if it has one, at the word's own location, with its flags. In the expression of the
+// word, `.` is the location of the instruction. Error: memory may be refused.
 #[tactic(auto, using(crate::proofs::Joining::followed_nothing))]
 pub(crate) fn emit_form(
     emission: &mut Emission,

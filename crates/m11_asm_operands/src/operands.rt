@@ -22,7 +22,7 @@ use m11_scan_expressions::{Expr, ExprAt, expr_at, expr_from};
 pub struct OperandAt {
     // The operand, as written.
     pub(crate) operand: WrittenOperand<Expr>,
-    // The column after it.
+    // The column after the operand.
     pub(crate) end: u8,
     // A if the operand or a `)` is missing.
     pub(crate) flags: ErrorFlags,
@@ -100,7 +100,8 @@ fn immediate(line: &Line, is_deferred: bool, start: u8) -> OperandAt
     )
 }
 
-// The operand that begins with a `-`: `-(R)` if `(` follows with nothing but blanks between them, otherwise an expression with a sign.
+// The operand that begins with a `-`, or with an `@` and a `-`: `-(R)` or `@-(R)` if `(` follows the `-` with nothing but blanks between
+// them, otherwise an expression with a sign.
 fn after_minus(line: &Line, is_deferred: bool, start: u8, minus: Token) -> OperandAt
     requires { IsNext line.now.text start minus }
     ensures { read_seen line.now.text result
@@ -112,14 +113,14 @@ fn after_minus(line: &Line, is_deferred: bool, start: u8, minus: Token) -> Opera
     }
 }
 
-// Whether a token is a `(` with no skipped character between a column and it.
+// Whether a token is a `(`, with no skipped character between the column and the token.
 fn opens_after(line: &Line, column: u8, token: Token) -> bool
     ensures { result ≡ opens_after line.now.text column (lexeme line.now.text token) }
 {
     is_open(token.sort) && !skipped_between(line, column, token.start)
 }
 
-// An operand `-(R)` or `@-(R)`, read from the column after its `(`: a register and a `)`. Flagged A if the `)` is missing.
+// An operand `-(R)` or `@-(R)`, read from the column after its `(`: a register and a `)`. The operand is flagged A if the `)` is missing.
 fn before(line: &Line, is_deferred: bool, start: u8) -> OperandAt
     ensures { read_seen line.now.text result ≡ spec.closed (Before is_deferred) line.now.text start }
 {
@@ -132,7 +133,7 @@ fn before(line: &Line, is_deferred: bool, start: u8) -> OperandAt
     )
 }
 
-// An operand with an index, read from the column after its `(`: a register and a `)`. Flagged A if the `)` is missing.
+// An operand with an index, read from the column after its `(`: a register and a `)`. The operand is flagged A if the `)` is missing.
 fn indexed(line: &Line, is_deferred: bool, index: Expr, start: u8) -> OperandAt
     ensures { read_seen line.now.text result
         ≡ spec.closed (Indexed is_deferred (expression_of line.now.text index)) line.now.text start }
@@ -146,7 +147,7 @@ fn indexed(line: &Line, is_deferred: bool, index: Expr, start: u8) -> OperandAt
     )
 }
 
-// The operand with the `)` that ends it. Flagged A if the next token isn't a `)`.
+// The operand with the `)` that ends it. The operand is flagged A if the next token isn't a `)`.
 // speed: a call would pass its result through memory.
 #[inline(always)]
 fn closed_by(line: &Line, operand: WrittenOperand<Expr>, end: u8, next: Option<Token>) -> OperandAt
@@ -171,7 +172,7 @@ fn place(line: &Line, is_deferred: bool, start: u8, token: Token) -> OperandAt
     reached(line, is_deferred, start, expr_from(line, start, token))
 }
 
-// The operand that begins with an expression, which was read at a column; it is an index if `(` follows.
+// The operand that begins with an expression, which was read at a column. The expression is an index if `(` follows it.
 // speed: a call would pass its result through memory.
 #[inline(always)]
 fn reached(line: &Line, is_deferred: bool, start: u8, at: ExprAt) -> OperandAt
@@ -191,8 +192,8 @@ fn reached(line: &Line, is_deferred: bool, start: u8, at: ExprAt) -> OperandAt
     }
 }
 
-// An operand that begins with `(` or `@(`, read from the column after the `(`: a register, a `)`, and perhaps a `+`. Flagged A if the
-// `)` is missing.
+// An operand that begins with `(` or `@(`, read from the column after the `(`: a register, a `)`, and perhaps a `+`. The operand is flagged
+// A if the `)` is missing.
 fn bracketed(line: &Line, is_deferred: bool, start: u8) -> OperandAt
     ensures { read_seen line.now.text result ≡ spec.bracketed is_deferred line.now.text start }
 {
@@ -207,7 +208,7 @@ fn bracketed(line: &Line, is_deferred: bool, start: u8) -> OperandAt
     }
 }
 
-// `(R)`, with or without a `+` after it.
+// The operand `(R)` or `@(R)`, with or without a `+` after it.
 fn stepped(line: &Line, is_deferred: bool, register: Expr, end: u8) -> OperandAt
     ensures { read_seen line.now.text result
         ≡ spec.stepped_by is_deferred (expression_of line.now.text register) end (tokens_from line.now.text end) }

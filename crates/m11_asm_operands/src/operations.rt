@@ -9,8 +9,8 @@ use m11_base::{Op, Row, other_names, rows};
 use m11_scan::is_same_six;
 
 // For each hash, the index of the only row whose name has this hash. Indices count through the list of instructions and then through the
-// list of further names. There are 89 rows, so 99 is the index of no row. The proof of `operation_of` shows that no row is missed; it fails
-// if a row is added and this table isn't computed again.
+// list of further names. There are 89 rows; 99, the index of no row, marks a hash that no name has. The proof of `operation_of` shows that
+// no row is missed; it fails if a row is added and this table isn't computed again.
 // speed: searching the rows one by one would compare 40 of them for a common name.
 #[rattlefmt::skip]
 static INDICES: [u8; 256] = [
@@ -32,7 +32,7 @@ static INDICES: [u8; 256] = [
     99, 99, 99, 62, 99, 99, 99, 67, 99, 99, 17, 11, 99, 99, 99, 54,
 ];
 
-/// The operation with this six-character name, if there is one: from the list, or else from the list of further names.
+/// The operation with this six-character name, if there is one: from the list of instructions, or else from the list of further names.
 #[tactic(auto, using(crate::proofs::OneRow::only_row))]
 pub(crate) fn operation_of(name: &[u8; 6]) -> Option<Op>
     ensures { result ≡ or_else (named_in rows name.now) (named_in other_names name.now) }
@@ -41,7 +41,8 @@ pub(crate) fn operation_of(name: &[u8; 6]) -> Option<Op>
     operation_in(row_at(usize::from(index)), name)
 }
 
-// A hash of the first four characters. The factors were found by trial: with them, no two names of operations have the same hash.
+// A hash of the first four characters of a name, from 0 to 255. The factors were found by trial: with them, no two names of operations have
+// the same hash.
 fn hash_of(name: &[u8; 6]) -> usize
     ensures { result ≡ hash_of name.now }
 {
@@ -53,7 +54,7 @@ fn hash_of(name: &[u8; 6]) -> usize
     sum % 256
 }
 
-// The row at an index, in the list followed by the list of further names; none past the end of both.
+// The row at an index in the list of instructions followed by the list of further names; None past the end of both.
 fn row_at(index: usize) -> Option<&'static Row>
     ensures { option_map (λ row. row.now) result ≡ slice_get (rows ++ other_names) index }
 {

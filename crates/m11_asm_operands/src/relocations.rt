@@ -12,8 +12,8 @@ use m11_obj::{RelocationKind, StoredConstant};
 use m11_scan_expressions::{Kind, Value};
 use std::marker::Model;
 
-// The relocations of a value: in a byte, or in a word that isn't a relative operand; in a relative operand in a REL section; and in one in
-// an ABS section.
+// The relocations of a value: in a byte, or in a word that isn't a relative operand; in a relative operand in a REL section; and in a
+// relative operand in an ABS section.
 #[derive(Clone, Copy)]
 pub(crate) struct Row {
     in_word: RelocationKind,
@@ -65,7 +65,7 @@ impl Row {
         }
     }
 
-    // The row of a name in another object.
+    // The row of a value relative to a name that another object defines.
     pub(crate) fn in_object(name: Name) -> Row
         ensures { result ≡ spec.row_of (spec.InObject name) }
     {
@@ -138,8 +138,8 @@ pub fn distance(location: u16, target: u16) -> u16
     ((u32::from(target) + 131072 - (u32::from(location) + 2)) % 65536) as u16
 }
 
-// A value at a location, with its relocation. A relative operand that the linker doesn't change is stored as its distance from the location
-// after the word.
+// A value at a location, with its relocation. For a relative operand that the linker doesn't change, the distance of its target from the
+// location after the word is stored.
 pub(crate) fn stored_as(
     is_relative: bool,
     kind: RelocationKind,

@@ -37,7 +37,7 @@ use Rattle.m11_unfold_rules.specs.Unfolding.{UnfoldedLine}
 abbrev is_among : Name → List Name → Bool
 is_among name names = list_any (λ other. is_same_name other name) names
 
--- a name has a definition if it is among the keys
+-- a name has a definition exactly if it is among the keys
 among_defined : (name : Name) (entries : List (Name × Definition))
     → is_some (lookup (is_same_name name) entries) ≡ is_among name (keys_of entries)
 among_defined name [] = refl
@@ -50,7 +50,7 @@ among_defined name (entry ∷ entries) =
     found_by true others = refl
     found_by false others = refl
 
--- one more definition
+-- a name that may be added at the end of the rest of a list may as well be added at the end of the whole list
 longer : (b : Bool) (first name : Name) (names : List Name)
     → first ∷ (if b then names else names ++ name ∷ []) ≡ (if b then first ∷ names else (first ∷ names) ++ name ∷ [])
 longer true first name names = refl
@@ -176,7 +176,7 @@ no_more (first ∷ some) all differ there =
 
 -- ---- each defined name is among the used ones
 
--- and each is defined once
+-- the defined names differ from each other, and each is a counted name
 abbrev Known : Table → List Name → Type 0
 Known table names = Differ (keys_of table.definitions.names)
     × ((name : Name) → is_defined (Named name) table.definitions ≡ true → is_counted name names ≡ true)
@@ -297,7 +297,7 @@ lines_known map_ table (given ∷ lines) names known =
 
 -- ---- how many there are
 
--- the names of the registers, and the used ones
+-- a counted name is the name of a register or among the used names
 counted_there : (names : List Name) (name : Name) → is_counted name names ≡ true
     → is_among name (keys_of first_definitions.names ++ names) ≡ true
 counted_there names name counts =

@@ -20,11 +20,11 @@ use Rattle.m11_asm_lines.specs.declared.counting.Counting.{Counting}
 use Rattle.m11_asm_lines.specs.declared.counting.Counting.TheVariants.{Definitions}
 use Rattle.m11_asm_lines.specs.Counting.{none_used}
 
--- each pass over lines reaches its end, or passes a limit
+-- each pass over lines reaches its end, or exceeds a limit
 abbrev pub EachEnds : Type 0
 EachEnds = (map : Map) (counting : Counting) (all : List SourceLine) → HasEnd map counting all
 
--- it ends, or it is refused
+-- a pass over a reading ends, or is refused
 abbrev pub Comes : Map → Counting → Reading → Type 0
 Comes map counting reading = ((lines : List NumberedLine) × (ended : EndOfSource) × Ends map counting reading lines ended)
     ⊎ ((lines : List NumberedLine) × (fault : AsmFault) × Refuses map counting reading lines fault)

@@ -37,7 +37,7 @@ use Rattle.m11_unfold_rules.proofs.Cases.{fault_from, move_from}
 
 -- ---- a line that becomes live, with and without further lines of the source
 
--- reading it passes no limit
+-- if the move that makes a line live is within the limits, it also is with further lines of the source left
 fits_by : (more : List SourceLine) (has_ended : Bool) (left : List RemainingItem) (stage after : Stage) (live : Live)
     → (if has_ended then NothingLeft else move_from left stage) ≡ Gives live after → (if has_ended then None else fault_from left stage) ≡ None
     → (if has_ended then None else fault_from (left ++ map line_left more) (with_more more stage)) ≡ None
@@ -50,14 +50,14 @@ pub fits_on : (more : List SourceLine) (stage after : Stage) (live : Live) → n
     → next_fault (with_more more stage) ≡ None
 fits_on more stage after live fits moves = fits_by more stage.has_ended stage.left stage after live moves fits
 
--- a single line, with what is known at it
+-- in a list of one live line, what is known at each line is what is known at that one
 known_alone : (one : UnfoldedLine) → IsKnownBy (λ earlier live. one.known) (one ∷ [])
 known_alone one [] later other is = ap (λ (g : UnfoldedLine). g.known) (let same : one ≡ other = cc in sym same)
 known_alone one (first ∷ []) later other is = absurd (let bad : [] ≡ other ∷ later = cc in cc)
 known_alone one (first ∷ second ∷ earlier) later other is = absurd (let bad : [] ≡ second ∷ (earlier ++ other ∷ later) = cc in cc)
 
 module _ (compare : Compared) (more : List SourceLine) where
-  -- its operator does the same
+  -- with further lines of the source left, the operator of a live line has the same result
   same_given : (known : KnownSymbols) (stage after : Stage) (live : Live) → next_fault stage ≡ None → move stage ≡ Gives live after
       → act_fault after live.line.text ≡ None → given known live (with_more more after) ≡ given known live after
   same_given known stage after live fits moves acts =
@@ -78,7 +78,7 @@ module _ (compare : Compared) (more : List SourceLine) where
       go (inl on) = let whole = on.whole in cc
       go (inr on) = let whole = on.whole in cc
 
-  -- so it passes the same limit
+  -- so a live line exceeds the same limit, if any, with further lines of the source left
   module _ (map_ : Map) (table : Table) (counting : Counting) (stage after : Stage) (live : Live) (fits : next_fault stage ≡ None)
       (moves : move stage ≡ Gives live after) where
     abbrev limit : Option UnfoldFault → UnfoldedLine → Option AsmFault

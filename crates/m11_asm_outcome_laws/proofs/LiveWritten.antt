@@ -29,7 +29,7 @@ module _ (alike : EndAlike) (passes_none : PassesNone) {F : Type 0} (text : F �
   abbrev reading : Reading
   reading = reading_of sources
 
-  -- the first pass reads the sources
+  -- if a reading is that of the sources, a pass over the reading ends as a pass over the sources does
   first_ends : (lines : List NumberedLine) (ended : EndOfSource) (read : Reading) → read ≡ reading → Ends empty_map none_used read lines ended
       → Ends empty_map none_used reading lines ended
   first_ends lines ended read same ends = subst (λ (r : Reading). Ends empty_map none_used r lines ended) same ends

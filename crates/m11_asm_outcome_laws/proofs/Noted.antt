@@ -68,7 +68,7 @@ module _ (name : Name) where
       ∙ counts_by (is_defined (Named name) first_definitions) (list_any (λ other. is_same_name other name) names) (is_same_name name name)
       (same_name_itself name)
 
-  -- the name of the first use
+  -- the name of the first use is counted
   pub first_counts : (some : List SymbolUse) (names : List Name) → is_counted name (with_uses (named name ∷ some) names) ≡ true
   first_counts some names = uses_stay some (with_symbol (Ordinary name) names) (now_by (is_counted name names) names refl)
 

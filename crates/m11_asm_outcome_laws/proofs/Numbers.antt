@@ -1,4 +1,4 @@
--- The number of a placed line is the least number of first source lines that unfold to it and all before it.
+-- The number of a placed line is the least number of first source lines that unfold to it and to all live lines before it.
 use Rattle.std.proofs.Common.{◌≡◌, ◌∙◌, ◌<◌, ◌≤◌, ℕ, ◌+◌, zero, suc, List, [], ◌∷◌, ◌++◌, append_assoc, append-nil, drop, length, length-append, take, inl, inr, refl, sym, ap, subst, arith}
 use Rattle.std.specs.Prelude.{◌⊎◌}
 use Rattle.std.proofs.lemmas.List.{length-map, map-append, take-append-drop, take-append-le, take_at}
@@ -31,7 +31,7 @@ either (suc a) (suc b) = next (either a b)
 
 -- ---- one more line
 
--- in a list with one more line at its end, a line is that one or one of the others
+-- a line is in a list, with these lines before it
 record StandsBefore (placed before : List NumberedLine) (line : NumberedLine) : Type 0 where
   rest : List NumberedLine
   parts : placed ≡ before ++ line ∷ rest
@@ -116,7 +116,7 @@ module _ (compare : Compared) (map_ : Map) where
 
   -- ---- fewer source lines don't suffice
 
-  -- all the live lines of a source are at least as many as any first ones
+  -- all the live lines of a source are at least as many as any first live lines of it
   all_are_most : (source : List SourceLine) (done gives : List UnfoldedLine) (stage after : Stage) → AreLines map_ source done stage
       → AreAllLines map_ source gives after → length done ≤ length gives
   all_are_most source done gives stage after are all =
@@ -132,7 +132,7 @@ module _ (compare : Compared) (map_ : Map) where
           let sizes : length done ≡ length gives = ap length whole in
           omega (arith, sizes)
 
-  -- the live lines of the first lines of a source are live lines of the source
+  -- the live lines of the first lines of a source are the first live lines of the source
   more_give : (source more : List SourceLine) (done : List UnfoldedLine) (stage : Stage) → AreLines map_ source done stage
       → AreLines map_ (source ++ more) done (with_more more stage)
   more_give source more done stage are =

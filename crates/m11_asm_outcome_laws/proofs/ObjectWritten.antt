@@ -76,7 +76,7 @@ of_message : (flags number : ℕ) (text : Bytes) → gains (message_writes flags
 of_message flags number text =
     flagged_or_not (message_line (flags_text flags) number text) (is_flagged flags)
 
--- only the first of three lists of writes goes to the object
+-- if the second and the third of three lists of writes add nothing to the object, the object gains what the first list adds
 then_two : (xs ys zs : List Write) → gains ys ≡ [] → gains zs ≡ [] → gains (xs ++ (ys ++ zs)) ≡ gains xs
 then_two xs ys zs none nothing =
     of_both xs (ys ++ zs) ∙ ap (λ (t : Bytes). gains xs ++ t) (of_both ys zs ∙ ap₂ (λ (s t : Bytes). s ++ t) none nothing)
@@ -125,7 +125,7 @@ module _ (program : Program) where
   nothing_closed : blocks (closed_records (pieces_at [])) ≡ []
   nothing_closed = ap blocks (ap closed_records (no_pieces program.map) ∙ no_closed_records)
 
-  -- the head precedes the first closed text
+  -- after the head is written, the object has gained the head and the closed texts, in this order
   with_head : (before : List NumberedLine) → so_far before ++ gains (head_before program before)
       ≡ head ++ blocks (closed_records (pieces_at before))
   with_head [] =
@@ -202,7 +202,7 @@ module _ (program : Program) where
       (flushes ++ to_messages (count_line count) ∷ []) (of_listing (last_lines program.symbols program.sections count))
       (of_count count) ∙ of_contents last
 
-  -- the closed texts and the last one are all texts
+  -- the closed texts and the last text are all texts
   all_texts : (ps : List Piece) → blocks (closed_records ps) ++ blocks (last_records ps ++ EndOfModule ∷ [])
       ≡ blocks (text_records ps ++ EndOfModule ∷ [])
   all_texts ps =

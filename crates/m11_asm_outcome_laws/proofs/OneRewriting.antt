@@ -73,7 +73,7 @@ module _ (map_ : Map) (source : List SourceLine) where
 
 -- ---- after a line that becomes live next
 
--- an unfolding goes no further, or its first line is this one, whose operator passes no limit
+-- the first live line of an unfolding is this one, and its operator exceeds no limit
 record GivesFirst (there : Stage) (live : Live) (done : List UnfoldedLine) : Type 0 where
   known : KnownSymbols
   rest : List UnfoldedLine
@@ -129,7 +129,7 @@ module _ (compare : Compared) (once : EndsOnce) (map_ : Map) (counting : Countin
   compared done gives stage after are are' =
       compare (tells map_) (start reading.lines) stage after done gives (known_by map_ done are.1) (known_by map_ gives are'.1) are.0 are'.0
 
-  -- a live line that passes a limit isn't among lines that pass none
+  -- a live line that exceeds a limit isn't among lines that exceed none
   module _ (done gives : List UnfoldedLine) (after : Stage) (live : Live) (there : Stage) (fault : AsmFault)
       (are : AreLines map_ reading.lines gives after) (kept : KeepLimits map_ first_table counting gives)
       (exceeds : line_fault map_ (table_after map_ done) (counting_after map_ first_table done counting) live there ≡ Some fault) where
@@ -157,7 +157,7 @@ module _ (compare : Compared) (once : EndsOnce) (map_ : Map) (counting : Countin
         (placing_fault map_ table named (given_by table live there)) here.0 is_first.acts placing in
         let bad : Some fault ≡ None = sym exceeds ∙ none in cc
 
-  -- after the fault of a reading its unfolding goes no further
+  -- after the fault of a reading, its unfolding goes no further
   no_further : (done gives : List UnfoldedLine) (stage after : Stage) (fault : AsmFault) → NextFails map_ counting reading done stage fault
       → AreLines map_ reading.lines gives after → KeepLimits map_ first_table counting gives → (more : List UnfoldedLine)
       → gives ≡ done ++ more → Leads stage more after → (more ≡ []) × (after ≡ stage)
@@ -172,7 +172,7 @@ module _ (compare : Compared) (once : EndsOnce) (map_ : Map) (counting : Countin
       go (inl none) = none
       go (inr is_first) = absurd (not_among done gives after live there fault are kept exceeds more whole is_first)
 
-  -- it has only one fault
+  -- at one stage of its unfolding, a reading has only one fault
   next_alike : (done : List UnfoldedLine) (stage : Stage) (one other : AsmFault) → NextFails map_ counting reading done stage one
       → NextFails map_ counting reading done stage other → one ≡ other
   next_alike done stage one other (first.NextFails.AtTaking inner exceeds is) (first.NextFails.AtTaking inner' exceeds' is') =
@@ -203,7 +203,7 @@ module _ (compare : Compared) (once : EndsOnce) (map_ : Map) (counting : Countin
       let same : inner ≡ inner' = cc in
       is ∙ ap of_lines same ∙ sym is'
 
-  -- two unfoldings have equal ends if the first goes no further
+  -- two unfoldings have the same live lines and the same stage
   record AreAlike (done gives : List UnfoldedLine) (stage after : Stage) : Type 0 where
     lines : done ≡ gives
     stages : after ≡ stage
@@ -234,7 +234,7 @@ module _ (compare : Compared) (once : EndsOnce) (map_ : Map) (counting : Countin
           let Q : Stage → Type 0 = λ s. NextFails map_ counting reading done s other in
           (same.lines, next_alike done is.stage one other is.next (subst Q same.stages (subst P (sym same.lines) is'.next)))
 
-  -- once everything is read there is no fault
+  -- if nothing is left to unfold, and the reading has no fault unless `.END` became live, no fault comes next
   not_at_rest : (done : List UnfoldedLine) (stage : Stage) (fault : AsmFault) → move stage ≡ NothingLeft
       → (stage.has_ended ≡ false → reading.fault ≡ None) → NextFails map_ counting reading done stage fault → ⊥
   not_at_rest done stage fault rests unless_end (first.NextFails.AtTaking inner exceeds is) = stuck_moves stage (Taking inner exceeds) rests
@@ -303,7 +303,7 @@ module _ (compare : Compared) (once : EndsOnce) where
       let lines : is.lines ≡ is'.lines = same_lines program.map reading.lines is.lines is'.lines is.numbers is'.numbers both.0 in
       ap₂ Refused both.1 (is.are ∙ ap (written program) lines ∙ sym is'.are)
 
-  -- what is assembled isn't refused
+  -- if two readings are assembled, they aren't refused
   not_refused : (first second : Reading) (writes others : List Write) (flagged : ℕ) (fault : AsmFault)
       → IsOfWholeSources first second (Assembled writes flagged) → IsOfWholeSources first second (Refused fault others) → ⊥
   not_refused first second writes others flagged fault (program, is, all) (inl (lines, refused, none)) =
@@ -332,7 +332,7 @@ module _ (compare : Compared) (once : EndsOnce) where
       let P : Program → Type 0 = λ p. WritesFirstLines p second stopped others in
       one_refusing program second fault stopped writes others firsts (subst P (sym (one_program first program other is is')) firsts')
 
-  -- since there is an outcome, an outcome by whole sources is that one
+  -- since two readings have an outcome, an outcome by whole sources is that outcome
   pub are_theirs : ((first second : Reading) (outcome : Outcome) → HasOutcome first second outcome → IsOfWholeSources first second outcome)
       → ((first second : Reading) → (outcome : Outcome) × HasOutcome first second outcome)
       → (first second : Reading) (outcome : Outcome) → IsOfWholeSources first second outcome → HasOutcome first second outcome

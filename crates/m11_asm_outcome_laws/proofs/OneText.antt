@@ -1,4 +1,4 @@
--- In two passes over one text the second does what the first did.
+-- Of two passes over one text, the second has the same live lines and the same end as the first.
 use Rattle.std.proofs.Common.{◌≡◌, ◌∙◌, List, ◌∷◌, ◌++◌, inl, inr, refl, sym, ap, subst}
 use Rattle.m11_asm.specs.Outcome as outcome
 use Rattle.m11_asm.specs.Outcome.{Ends, HasOutcome, Outcome, Refuses}
@@ -57,7 +57,7 @@ module _ (alike : EndAlike) (passes_none : PassesNone) (reading : Reading) (line
         whole = sym whole;
       })
 
-  -- it ends after the same lines
+  -- if the second pass reaches an end, it has the same live lines as the first pass, and the same end
   pub same_end : (others : List NumberedLine) (end : EndOfSource) → Ends map_after Definitions reading others end → (lines ≡ others) × (ended ≡ end)
   same_end others end ends' =
       let second = ends_so map_after Definitions reading others end ends' in

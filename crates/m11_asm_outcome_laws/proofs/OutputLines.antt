@@ -41,7 +41,7 @@ module _ (output : Output) where
   then_skipped xs ys lines first second =
       gained-append assembly output xs ys ∙ ap₂ (λ (s t : Bytes). s ++ t) first second ∙ append-nil (concat lines)
 
-  -- only without `.END`
+  -- writes that make lines still do if both are left out
   if_added : (b : Bool) (writes : List Write) (lines : List Bytes) → Makes output writes lines
       → Makes output (if b then [] else writes) (if b then [] else lines)
   if_added true writes lines made = none_made
@@ -99,7 +99,7 @@ lines_if_unsaid : (lines : List Bytes) (b : Bool) → Makes Messages (if b then 
 lines_if_unsaid lines true = lines_unsaid lines
 lines_if_unsaid lines false = none_made Messages
 
--- a message or none, before others
+-- the line of a message, if there is one
 abbrev lines_if : Option Bytes → List Bytes
 lines_if None = []
 lines_if (Some line) = line ∷ []

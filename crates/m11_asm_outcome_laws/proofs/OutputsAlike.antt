@@ -9,7 +9,7 @@ use Rattle.m11_base.specs.Devices.{Bytes}
 use Rattle.m11_scan_line_laws.specs.Readings.{Reading}
 use Rattle.m11_base_writes.specs.Writes.{gained}
 
--- known bytes after some more
+-- if the bytes of an output are known, those after a gain are the same bytes followed by the gained ones
 grown : (before more : Bytes) (new : Option Bytes) → Appends (Some before) new more → new ≡ Some (before ++ more)
 grown before more None appends = absurd appends
 grown before more (Some after) appends = ap (λ (bytes : Bytes). Some bytes) appends

@@ -145,7 +145,7 @@ module _ (once : EndsOnce) (limit_once : ExceedsOnce) (either : EndsOrExceeds) (
       abbrev second : Pass F
       second = pass_of text faults feeds feeds'
 
-      -- a feed or an output failed, or memory was refused
+      -- if the second pass stops, a feed or an output failed, or memory was refused
       second_stops : (stopped : AsmFault) → ReadsSecond second program old new (Err stopped) → Stopped stopped
       second_stops fault.Read (source, fails, others, unended, gains) =
           let on = fail_begins text faults feeds feeds' sources (record { lines = source; fault = None }) known fails in (
@@ -190,7 +190,7 @@ module _ (once : EndsOnce) (limit_once : ExceedsOnce) (either : EndsOrExceeds) (
           absurd (not_both once limit_once either empty_map none_used reading lines h.2 ended stopped ends
           (subst (λ (r : Reading). Refuses empty_map none_used r h.2 stopped) here h.3))
 
-      -- the first pass has the lines of the sources
+      -- the live lines of the first pass are those of the sources
       same_lines : (others : List NumberedLine) → ReadsFirst (pass_of text faults feeds feeds') (Ok others) → others ≡ lines
       same_lines others (read, reads, end, ends') =
           let here = same_reading text faults feeds feeds' sources read known reads in

@@ -1,4 +1,4 @@
--- A run that ends by a fault of the sources has written their outcome.
+-- A run that ends with a fault of the sources has written their outcome.
 use Rattle.std.proofs.Common.{◌≡◌, List, [], Ok, Err, inl, inr, refl, sym, subst}
 use Rattle.m11_asm.specs.Outcome as outcome
 use Rattle.m11_asm.specs.Outcome.{HasOutcome, Refused, Refuses}
@@ -20,7 +20,7 @@ use Rattle.m11_asm_outcome_laws.specs.Runs.{IsOfSources, IsRefused}
 use Rattle.m11_asm_lines.specs.declared.counting.Counting.TheVariants.{Definitions}
 use Rattle.m11_asm_lines.specs.Counting.{none_used}
 
--- what the passes of a run promise if they end by a fault of the sources
+-- what the passes of a run promise if they end with a fault of the sources
 abbrev FirstRefuses : {F : Type 0} → Pass F → AsmFault → Type 0
 FirstRefuses first stopped =
     (reading : Reading) × Reads first reading × (lines : List NumberedLine) × Refuses empty_map none_used reading lines stopped

@@ -98,7 +98,7 @@ module _ {F : Type 0} (text : F → Option Text) (faults : F → ℕ) where
             ∙ ap (λ (r : Reading). r.lines ++ lines.0) is,
       )
 
-  -- ---- if none failed, they yielded the sources
+  -- ---- if no feed failed, the feeds yielded the sources
 
   known_sources : (feeds : List F) (sources others : List Bytes) → AreKnown text feeds sources → GiveAll text feeds others
       → others ≡ sources

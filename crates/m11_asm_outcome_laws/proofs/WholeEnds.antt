@@ -1,4 +1,4 @@
--- If the unfolding of a whole source is complete and no line passes a limit, a pass ends with its live lines.
+-- If the unfolding of a whole source is complete and no line exceeds a limit, a pass ends with its live lines.
 use Rattle.std.proofs.Common.{◌≡◌, ◌∙◌, Bool, true, false, List, [], ◌∷◌, ◌++◌, append_assoc, append-nil, map, Option, Some, None, inl, inr, refl, sym, ap, subst}
 use Rattle.std.specs.Option.{option_or}
 use Rattle.std.specs.Prelude.{◌⊎◌, if◌then◌else◌, option_map}
@@ -58,7 +58,7 @@ at_rest stage rests = record {
   no_line = λ after live fits moves acts. let bad : NothingLeft ≡ Gives live after = sym rests ∙ moves in cc;
 }
 
--- ---- the next move passes a limit of unfolding
+-- ---- the next move exceeds a limit of unfolding
 
 pub data IsStuck (stage : Stage) : Type 0 where
   Taking : (fault : UnfoldFault) → next_fault stage ≡ Some fault → IsStuck stage
@@ -85,7 +85,7 @@ stuck_halts stage (Acting fault live there gives is) = record {
         = ap (λ (s : Stage). act_fault s live.line.text) same_stage ∙ ap (λ (l : Live). act_fault after l.line.text) same_live in
         let bad : Some fault ≡ None = sym is ∙ same ∙ acts in cc
 
--- there is a next move
+-- if a line is left to read, there is a next move
 no_rest : (conditions : Option OpenConditions) (line : SourceLine) (stage : Stage) → live_or_skipped conditions line stage ≡ NothingLeft → ⊥
 no_rest (Some conditions) line stage is = let bad = is in cc
 no_rest None line stage is = let bad = is in cc
@@ -105,7 +105,7 @@ pub stuck_moves : (stage : Stage) → IsStuck stage → move stage ≡ NothingLe
 stuck_moves stage (Taking fault is) rests = no_rest_by stage.has_ended stage.left stage fault rests is
 stuck_moves stage (Acting fault live after gives is) rests = let bad : Gives live after ≡ NothingLeft = sym gives ∙ rests in cc
 
--- with further lines of the source the limit is the same
+-- with further lines of the source left, the next move exceeds the same limit
 pub fault_on : (more : List SourceLine) (has_ended : Bool) (left : List RemainingItem) (stage : Stage) (fault : UnfoldFault)
     → (if has_ended then None else fault_from left stage) ≡ Some fault
     → (if has_ended then None else fault_from (left ++ map line_left more) (with_more more stage)) ≡ Some fault
@@ -132,7 +132,7 @@ EndsOnce = (tells : List UnfoldedLine → Live → KnownSymbols) (before first s
     → IsKnownBy tells later → Leads before done first → Leads before later second → move first ≡ NothingLeft → move second ≡ NothingLeft
     → (done ≡ later) × (first ≡ second)
 
--- a line that passes no limit has no fault
+-- a line that exceeds none of the three kinds of limits has no fault
 pub no_fault : (labels : Option AsmFault) (acting : Option UnfoldFault) (placing : Option AsmFault) → labels ≡ None → acting ≡ None
     → placing ≡ None → option_or labels (option_or (option_map of_unfolding acting) placing) ≡ None
 no_fault labels acting placing none none' none'' =
@@ -170,7 +170,7 @@ module _ (compare : Compared) (once : EndsOnce) (map_ : Map) (counting : Countin
               leads = subst P (sym still.1) steps.Leads.Stays;
             }
 
-    -- so it isn't stuck
+    -- so no unfolding of the source is stuck
     not_stuck : (done : List UnfoldedLine) (stage : Stage) → AreLines map_ all done stage → IsStuck stage → ⊥
     not_stuck done stage are stuck =
         let on : GoesOn done stage gives after = on_to_end done stage are in
@@ -197,7 +197,7 @@ module _ (compare : Compared) (once : EndsOnce) (map_ : Map) (counting : Countin
         abbrev one : UnfoldedLine
         one = given_by table live there
 
-        -- a line whose operator passes no limit is one of the lines of the source
+        -- a line whose operator exceeds no limit is one of the live lines of the source
         with_line : act_fault there live.line.text ≡ None
             → AreLines map_ all (givens placed_lines ++ one ∷ []) (with_more more (acted table live there))
         with_line acts =

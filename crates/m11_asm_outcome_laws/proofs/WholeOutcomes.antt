@@ -23,7 +23,7 @@ use Rattle.m11_asm_lines.specs.declared.counting.Counting.{Counting}
 use Rattle.m11_asm_lines.specs.declared.counting.Counting.TheVariants.{Definitions}
 use Rattle.m11_asm_lines.specs.Counting.{none_used}
 
--- three parts of the law of passes, and that of refusals
+-- three parts of the law of the lines of a pass, and the law of refusals
 abbrev pub Limits : Type 0
 Limits = (map : Map) (counting : Counting) (source : List SourceLine) (lines : List NumberedLine) (stage : Stage)
     → PassLines map counting source lines stage → KeepLimits map first_table counting (givens lines)
@@ -40,7 +40,7 @@ abbrev pub Refusals : Type 0
 Refusals = (map : Map) (counting : Counting) (reading : Reading) (lines : List NumberedLine) (fault : AsmFault)
     → Refuses map counting reading lines fault → IsRefusedAfter map counting reading (givens lines) fault
 
--- the lines of a pass that ends
+-- these are all the live lines of a reading, with their numbers, and this is the end of the reading
 record IsWhole (map : Map) (counting : Counting) (reading : Reading) (lines : List NumberedLine) (ended : EndOfSource) : Type 0 where
   stage : Stage
   all : AreAllRead map counting reading (givens lines) stage

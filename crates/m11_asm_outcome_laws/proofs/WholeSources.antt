@@ -34,7 +34,7 @@ use Rattle.m11_asm_pass_laws.specs.Ends.{EndsAfter, IsOver}
 use Rattle.m11_asm_outcome_laws.specs.AllLines.{AreAllLines, KeepLimits}
 use Rattle.m11_asm_lines.specs.declared.counting.Counting.{Counting}
 
--- ---- a line that passes no limit
+-- ---- a line that exceeds no limit
 
 pub first_none : (first second : Option AsmFault) → option_or first second ≡ None → first ≡ None
 first_none None second is = refl
@@ -90,7 +90,8 @@ known_by map_ done are_told earlier later one is = told_from map_ first_table do
 -- ---- the lines of a pass
 
 module _ (map_ : Map) (counting : Counting) where
-  -- one line of the source is read
+  -- if a stage is reached with a line and further lines unread, then it is also reached with the line read and only the further lines
+  -- unread
   read : (source more : List SourceLine) (done : List UnfoldedLine) (stage : Stage) (line : SourceLine) → stage.left ≡ []
       → Leads (start (source ++ line ∷ more)) done (with_more (line ∷ more) stage)
       → Leads (start ((source ++ line ∷ []) ++ more)) done (with_more more (with_line line stage))
@@ -100,7 +101,7 @@ module _ (map_ : Map) (counting : Counting) where
       let Q : List SourceLine → Type 0 = λ s. Leads (start s) done (with_more more (with_line line stage)) in
       subst Q (sym (append_assoc source (line ∷ []) more)) (subst P none leads)
 
-  -- something is read, and no line becomes live
+  -- moves by which no line becomes live leave the live lines of the whole source as they are
   passed : (source more : List SourceLine) (done : List UnfoldedLine) (before after : Stage) → Leads before [] after
       → Leads (start (source ++ more)) done (with_more more before) → Leads (start (source ++ more)) done (with_more more after)
   passed source more done before after moves leads =
@@ -108,7 +109,7 @@ module _ (map_ : Map) (counting : Counting) where
       subst P (append-nil done) (follows (start (source ++ more)) (with_more more before) (with_more more after) done [] leads
       (leads_on more before after [] moves))
 
-  -- a line becomes live
+  -- if a line becomes live and exceeds no limit, it is the next live line of the whole source
   placed : (source more : List SourceLine) (placed_lines : List NumberedLine) (before after : Stage) (live : Live)
       → next_fault before ≡ None → move before ≡ Gives live after
       → line_fault map_ (table_at map_ placed_lines) (counting_at map_ counting placed_lines) live after ≡ None

@@ -21,14 +21,14 @@ pub record AreAllLines (map : Map) (source : List SourceLine) (gives : List Unfo
   pub are : AreLines map source gives stage
   pub rests : move stage ≡ NothingLeft
 
--- no live line exceeds a limit, given the table and the counted names before it
+-- starting from this table and these counted names, no live line exceeds a limit on names, local symbols or sections
 abbrev pub KeepLimits : Map → Table → Counting → List UnfoldedLine → Type 0
 KeepLimits map table counting [] = ⊤
 KeepLimits map table counting (given ∷ lines) =
     (labels_fault counting table given.live.line.text ≡ None) × (placing_fault map table counting given ≡ None)
     × KeepLimits map (after_line map table given) (with_counted (symbol_uses table given) counting) lines
 
--- a pass over all lines of a source ends with these live lines
+-- a pass over a source reaches its end with these live lines
 pub record EndsWith (map : Map) (counting : Counting) (all : List SourceLine) (gives : List UnfoldedLine) : Type 0 where
   pub source : List SourceLine
   pub lines : List NumberedLine

@@ -8,22 +8,22 @@ use Rattle.m11_base_writes.specs.Writes.{LeavesBeginnings}
 use Rattle.m11_asm.specs.Outcome.{Assembled, Outcome, Refused}
 use Rattle.m11_asm.specs.declared.done.AsmDone.{AsmDone}
 
--- the faults that can stop a run over sources that aren't refused
+-- the fault can stop a run over sources that aren't refused: a device failed, or memory was refused
 abbrev pub MayStop : AsmFault → Type 0
 MayStop fault.Read = ⊤
 MayStop (fault.Write output) = ⊤
 MayStop fault.NoMemory = ⊤
 MayStop stopped = ⊥
 
--- the refusal of the sources; or a feed failed, or memory was refused, before the pass came to that refusal
+-- the run stopped with the refusal of the sources, or because a feed failed or memory was refused
 abbrev pub IsRefusal : AsmFault → AsmFault → Type 0
 IsRefusal refused fault.Read = ⊤
 IsRefusal refused fault.NoMemory = ⊤
 IsRefusal refused stopped = stopped ≡ refused
 
--- If the sources are assembled, everything in the outcome was written, object and listing hold nothing back, and the flagged lines are
--- counted; or a device or memory stopped the run, and each output gained a prefix of what it would have gained. If the sources are
--- refused, the fault is the refusal, or that of a feed or of memory before it, and nothing was written.
+-- If the sources are assembled, the run wrote everything in the outcome, object and listing hold nothing back, and the run returned the
+-- count of flagged lines; or a device or a lack of memory stopped it, and each output gained a prefix of what the outcome has for it. If
+-- the sources are refused, the run stopped with the refusal, `Read` or `NoMemory`, and wrote nothing.
 abbrev pub IsDecided : Outcome → Outputs → Outputs → Result AsmDone AsmFault → Type 0
 IsDecided (Assembled writes flagged) old new (Ok done) = Gains old new writes × (done.flagged ≡ flagged) × AreFlushed new
 IsDecided (Assembled writes flagged) old new (Err stopped) = MayStop stopped × LeavesBeginnings assembly old new writes

@@ -19,17 +19,18 @@ use Rattle.m11_unfold_rules.specs.Taking.{Gives, Live, NothingLeft, move}
 use Rattle.m11_unfold_rules.specs.Unfolding.{UnfoldedLine}
 use Rattle.m11_unfold_rules.specs.declared.fault.UnfoldFault.{UnfoldFault}
 
--- all lines of a reading are read, or `.END` becomes live before the reading stops; these are the live lines, and they exceed no limit
+-- these are all the live lines of a reading, and they exceed no limit; and either `.END` becomes live, or the reading reached the end of
+-- the sources without a fault
 pub record AreAllRead (map : Map) (counting : Counting) (reading : Reading) (lines : List UnfoldedLine) (stage : Stage) : Type 0 where
   pub are : AreAllLines map reading.lines lines stage
   pub limits : KeepLimits map first_table counting lines
   pub unless_end : stage.has_ended ≡ false → reading.fault ≡ None
 
--- the fault that stops a reading right after these live lines, when the unfolding of the reading is at this stage
+-- this fault stops a reading right after these live lines, with the unfolding of the reading at this stage
 pub data NextFails (map : Map) (counting : Counting) (reading : Reading) (lines : List UnfoldedLine) (stage : Stage) (fault : AsmFault) : Type 0 where
   -- the next move exceeds a limit of unfolding
   AtTaking : (inner : UnfoldFault) → next_fault stage ≡ Some inner → fault ≡ of_unfolding inner → NextFails map counting reading lines stage fault
-  -- the next live line exceeds a limit, given the table and the counted names after the lines
+  -- the next live line exceeds a limit, given the table and the counted names after these lines
   AtLine : (live : Live) (after : Stage) → next_fault stage ≡ None → move stage ≡ Gives live after
       → line_fault map (table_after map lines) (counting_after map first_table lines counting) live after ≡ Some fault
       → NextFails map counting reading lines stage fault

@@ -25,12 +25,12 @@ pub record WritesLive (sources : List Bytes) (old new : Outputs) : Type 0 where
   pub flushed : AreFlushed new
   pub fit : AllFit (object_contents (program_after lines).rows (pieces_in (program_after lines).map lines))
 
--- this fault is the first refusal of the sources
+-- the first pass over the sources is refused by this fault
 abbrev pub AreRefused : List Bytes → AsmFault → Type 0
 AreRefused sources stopped = (lines : List NumberedLine) × Refuses empty_map none_used (reading_of sources) lines stopped
 
--- a successful run wrote what the live lines write; any other run was stopped by a device or by a lack of memory, or its fault is the
--- first refusal of the sources
+-- a successful run wrote what the live lines write; any other run was stopped by a device or by a lack of memory, or its fault is the one
+-- by which the first pass over the sources is refused
 abbrev pub ComesTo : List Bytes → Outputs → Outputs → Result AsmDone AsmFault → Type 0
 ComesTo sources old new (Ok done) = WritesLive sources old new
 ComesTo sources old new (Err stopped) = MayStop stopped ⊎ AreRefused sources stopped

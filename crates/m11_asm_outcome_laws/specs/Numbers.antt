@@ -9,7 +9,8 @@ use Rattle.m11_asm_rules.specs.Unfolded.{AreLines}
 use Rattle.m11_unfold_rules.specs.Stages.{Stage}
 use Rattle.m11_unfold_rules.specs.Unfolding.{UnfoldedLine}
 
--- the number of the last of these live lines: this many lines from the start of the source unfold to all of them, and fewer don't
+-- this is the number of the last live line in a list: this many lines from the start of the source unfold to the whole list, and fewer
+-- lines don't
 pub record IsLastNumber (map : Map) (source : List SourceLine) (gives : List UnfoldedLine) (number : ℕ) : Type 0 where
   pub stage : Stage
   pub are : AreLines map (take number source) gives stage

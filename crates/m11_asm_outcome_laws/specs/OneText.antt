@@ -21,8 +21,8 @@ pub record Repeats (reading : Reading) (lines : List NumberedLine) (ended : EndO
   pub unmoved : (before more : List NumberedLine) (this : NumberedLine) → lines ≡ before ++ this ∷ more
       → moved_after (program_after lines).map before this ≡ 0
 
--- the first pass decides the outcome: it is refused, and nothing is written; or the outputs of its live lines are written, and the count
--- of flagged lines is theirs
+-- the first pass decides the outcome: either it is refused, and nothing is written; or the outputs of its live lines are written, and the
+-- count of flagged lines is the one for these lines
 abbrev pub IsDecidedByFirst : Reading → Outcome → Type 0
 IsDecidedByFirst reading (Refused fault writes) = (writes ≡ []) × (lines : List NumberedLine) × Refuses empty_map none_used reading lines fault
 IsDecidedByFirst reading (Assembled writes flagged) = (lines : List NumberedLine) × (ended : EndOfSource) × Ends empty_map none_used reading lines ended

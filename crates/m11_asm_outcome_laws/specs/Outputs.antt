@@ -38,7 +38,8 @@ listed_after program before (line ∷ lines) = listed program before line ++ lis
 abbrev pub added_listed : EndOfSource → ℕ → List Bytes
 added_listed ended counter = if ended.has_end then [] else added_lines flag_E ended.read counter
 
--- the lines of each listed line, the added line, if there is one, and the symbol table with the count of flagged lines
+-- the lines for each live line that is listed, that for the added line, if there is one, and those of the symbol table and of the count of
+-- flagged lines
 abbrev pub listing_lines : Program → List NumberedLine → EndOfSource → List Bytes
 listing_lines program lines ended = listed_after program [] lines
     ++ (added_listed ended (last_location program lines)

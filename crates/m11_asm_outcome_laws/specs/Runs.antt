@@ -8,7 +8,7 @@ use Rattle.m11_asm_faults.specs.declared.fault.AsmFault.TheVariants as fault
 use Rattle.m11_base_writes.specs.Outputs.{Write}
 use Rattle.m11_scan_line_laws.specs.Readings.{Reading}
 
--- a fault of the sources: a limit is exceeded; the other faults are those of devices and of memory
+-- the fault lies in the sources, which exceed a limit; the other faults are those of devices and of memory
 abbrev pub IsOfSources : AsmFault → Type 0
 IsOfSources fault.Read = ⊥
 IsOfSources (fault.Write output) = ⊥
@@ -17,7 +17,8 @@ IsOfSources stopped = ⊤
 
 -- these writes and this fault are the outcome of what was read from the feeds
 pub data IsRefused {F : Type 0} (first second : Pass F) (stopped : AsmFault) (writes : List Write) : Type 0 where
-  -- the first pass is refused, whatever the second one would read: nothing is read from its feeds
+  -- the first pass is refused, whatever the second one would read: nothing is read from the feeds of the second pass, and nothing is
+  -- written
   InFirst : (one : Reading) → Reads first one → second.new ≡ second.old → writes ≡ []
       → ((other : Reading) → HasOutcome one other (Refused stopped [])) → IsRefused first second stopped writes
   -- the second pass is refused

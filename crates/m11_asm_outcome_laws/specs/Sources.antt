@@ -4,6 +4,6 @@ use Rattle.m11_asm.specs.Outcome.{HasOutcome, Outcome}
 use Rattle.m11_base.specs.Devices.{Bytes}
 use Rattle.m11_scan_line_laws.specs.Readings.{reading_of}
 
--- the outcome of sources that both passes read
+-- an assembly in which both passes read these sources has this outcome
 abbrev pub AssembleTo : List Bytes → Outcome → Type 0
 AssembleTo sources outcome = HasOutcome (reading_of sources) (reading_of sources) outcome

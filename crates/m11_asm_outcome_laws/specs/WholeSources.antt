@@ -16,7 +16,7 @@ use Rattle.m11_scan_line_laws.specs.Readings.{Reading}
 use Rattle.m11_unfold_rules.specs.Stages.{Stage}
 use Rattle.m11_unfold_rules.specs.Unfolding.{UnfoldedLine}
 
--- a program is the program of all the live lines of a reading
+-- this program is that of all the live lines of a reading
 pub record IsProgramOf (reading : Reading) (program : Program) : Type 0 where
   pub gives : List UnfoldedLine
   pub stage : Stage
@@ -31,7 +31,7 @@ pub record WritesAllLines (program : Program) (reading : Reading) (writes : List
   pub stage : Stage
   pub all : AreAllRead program.map Definitions reading (givens lines) stage
   pub numbers : HaveNumbers program.map reading.lines lines
-  -- whether `.END` became live; if not, all lines were read
+  -- the end of the source records whether `.END` became live, and if it didn't, that all lines were read
   pub has_end : ended.has_end ≡ stage.has_ended
   pub read : stage.has_ended ≡ false → ended.read ≡ length reading.lines
   pub are : writes ≡ program_writes program lines ended

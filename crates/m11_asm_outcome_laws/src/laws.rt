@@ -1,4 +1,4 @@
-//! Laws of outcomes. Each is the contract of a function whose body is empty or only calls the laws from which its own follows.
+//! Laws of outcomes. Each is the contract of a function whose body is empty or only calls the laws needed to prove it.
 
 ghost use Rattle.std.specs.Prelude.{◌≡◌, ◌↔◌, ◌∷◌, ◌++◌, ◌+◌, ℕ, List, [], Err, Some};
 ghost use Rattle.m11_asm.specs.Outcome.{Assembled, Ends, HasOutcome, Outcome, Refuses};
@@ -70,23 +70,23 @@ pub fn the_same_text_has_no_moved_label_and_no_second_refusal()
     no_label_has_moved_in_a_second_pass_over_the_same_lines();
 }
 
-/// A run that ends with a fault of its sources writes exactly the outcome of its two readings. If the first pass is refused, nothing is
-/// written and the second pass reads nothing; whatever it would read, the outcome is that refusal.
+/// If a run ends with a fault of its sources, that fault and the run's writes are the outcome of its two readings. If the first pass is
+/// refused, nothing is written and the second pass reads nothing; whatever it would read, the outcome is that refusal.
 /// `m11_asm::a_run_writes_the_outcome_of_its_sources` states the same for successful runs.
 pub fn runs_write_their_outcome<F>()
     ensures { (first second : Pass F) (old new : Outputs) (fault : AsmFault) → IsOfSources fault → AsmRuns first second old new (Err fault)
         → (writes : List Write) × IsRefused first second fault writes × Gains old new writes }
 {}
 
-/// An assembly writes a message for each flagged line, including the one that is added if `.END` doesn't become live, and one with the
-/// count of flagged lines.
+/// An assembly writes a message for each flagged line, including the line that is added if `.END` doesn't become live, and a message with
+/// the count of flagged lines.
 pub fn there_is_a_message_for_each_flagged_line()
     ensures { (program : Program) (lines : List NumberedLine) (ended : EndOfSource)
         → messages_in (program_writes program lines ended) ≡ flagged_count program lines ended.has_end + 1 }
 {}
 
-/// Two assemblies of the same texts, one with a listing and one without, write the same object and the same messages if neither is refused:
-/// an output with the same bytes before both has the same bytes after both.
+/// Two assemblies of the same readings, one with a listing and one without, write the same object and the same messages if neither is
+/// refused: an output with the same bytes before both has the same bytes after both.
 pub fn a_listing_changes_no_other_output()
     ensures { (first second : Reading) (writes others : List Write) (flagged count : ℕ)
         → HasOutcome first second (Assembled writes flagged) → HasOutcome first second (Assembled others count)

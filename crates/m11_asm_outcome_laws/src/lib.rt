@@ -1,8 +1,8 @@
 //! Laws of whole sources and of their outcome. A pass, which reads line by line, has the live lines of the unfolding of the whole source.
-//! Each list of sources has exactly one outcome, and every run that neither a device nor memory stops writes that outcome. The outcome
-//! determines the object, the listing and the messages as whole texts. Each law is the contract of a function that only calls the laws from
-//! which its own follows. (MACRO-11 Language Reference Manual, "Source program format", "Macro directives", "Conditional assembly
-//! directives", "Symbols" and "Listing control directives".)
+//! Each list of sources has exactly one outcome, and every run writes that outcome unless a device or a lack of memory stops it. The
+//! outcome determines the object, the listing and the messages as whole texts. Each law is the contract of a function whose body is empty
+//! or only calls the laws needed to prove it. (MACRO-11 Language Reference Manual, "Source program format", "Macro directives",
+//! "Conditional assembly directives", "Symbols" and "Listing control directives".)
 #![tactic(auto)]
 
 mod source_laws;
@@ -13,7 +13,7 @@ pub use source_laws::{
     the_lines_of_a_pass_are_those_of_the_whole_source, what_lines_define_they_use,
 };
 
-// Sources have one outcome, which every run writes unless a device or memory stops it.
+// Sources have one outcome, which every run writes unless a device or a lack of memory stops it.
 mod laws;
 
 pub use laws::{

@@ -21,7 +21,7 @@ pub fn the_object_is_the_blocks_of_its_contents()
         ≡ flat_map content_block (object_contents program.rows (pieces_in program.map lines)) }
 {}
 
-/// The listing has the lines of each listed live line, in order, then the line that is added if `.END` didn't become live, then the symbol
+/// The listing has the lines for each live line that is listed, in order, then the line added if `.END` didn't become live, then the symbol
 /// table and the count of flagged lines, and nothing else.
 #[tactic(auto, using(crate::proofs::OutputLines::listing_is_its_lines))]
 pub fn the_listing_is_its_lines()

@@ -1,5 +1,5 @@
 //! Laws of a pass, which reads line by line: it has the live lines of the unfolding of the whole source. Each law is the contract of a
-//! function that does nothing.
+//! function whose body is empty or only calls a law needed to prove it.
 
 ghost use Rattle.std.specs.Prelude.{◌≡◌, ◌≤◌, ◌+◌, ◌++◌, List, [], length};
 ghost use Rattle.m11_asm.specs.Outcome.{Refuses};
@@ -24,10 +24,10 @@ ghost use Rattle.m11_asm_lines.specs.declared.counting.Counting.{Counting};
 
 use m11_unfold_rules::a_source_has_one_unfolding;
 
-/// The live lines of a pass are those of the unfolding of the whole source, whatever source lines aren't read yet. That unfolding leads to
-/// the stage of the pass, with the unread lines left. No live line exceeds a limit. When the pass ends, its live lines are all the live
-/// lines of the source. The number of a live line is the least number of lines from the start of the source that unfold to it and to the
-/// live lines before it.
+/// The live lines that a pass has so far are the first live lines of the unfolding of the whole source, whatever lines aren't read yet.
+/// After these live lines, that unfolding is at the stage of the pass, with the unread lines left. No live line exceeds a limit. When the
+/// pass ends, its live lines are all the live lines of the source. The number of a live line is the least number of lines from the start of
+/// the source that unfold to it and to the live lines before it.
 pub fn the_lines_of_a_pass_are_those_of_the_whole_source()
     ensures so_far { (map : Map) (counting : Counting) (source more : List SourceLine) (lines : List NumberedLine) (stage : Stage)
         → PassLines map counting source lines stage → AreLines map (source ++ more) (givens lines) (with_more more stage) }
@@ -51,7 +51,7 @@ pub fn a_reading_is_refused_by_the_first_limit_of_the_whole_source()
 }
 
 /// If these are all the live lines in the unfolding of a whole source, and none of them exceeds a limit, a pass over the source ends with
-/// them. A pass that ends has no others.
+/// them. A pass that ends has no other live lines.
 pub fn a_pass_has_the_lines_of_the_whole_source()
     ensures ends { (map : Map) (counting : Counting) (all : List SourceLine) (gives : List UnfoldedLine) (stage : Stage)
         → AreAllLines map all gives stage → KeepLimits map first_table counting gives → EndsWith map counting all gives }

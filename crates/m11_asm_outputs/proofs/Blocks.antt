@@ -50,7 +50,7 @@ blocks_left blocks rest content e = ap (λ (t : List (ArrayVec ℕ)). map (λ co
 pub blocks_end : (blocks : List (ArrayVec ℕ)) → blocks ≡ [] → block_writes blocks ≡ []
 blocks_end blocks e = ap block_writes e ∙ no_blocks
 
--- the same writes, with equal contents
+-- equal contents are written with the same result
 pub contents_as : {A : Type 0} (a b : Outputs) (xs ys : List Content) (result : Result A AsmFault) → xs ≡ ys
     → Writes a b (content_writes xs) result → Writes a b (content_writes ys) result
 contents_as a b xs ys result e h =
@@ -66,7 +66,7 @@ pub contents_stop : (a b : Outputs) (xs ys : List Content) (stopped : AsmFault) 
 contents_stop a b xs ys stopped e h =
     let P : List Content → Type 0 = λ these. Stops a b (content_writes these) stopped in subst P e h
 
--- a head in two parts
+-- the head is written as the records that its rows fill, followed by the rest of the directory and its end
 pub head_split : (rows : List DirectoryRow) → content_writes (head_contents rows)
     ≡ content_writes (records_filled_by [] rows) ++ content_writes (rest_records rows ++ EndOfGsd ∷ [])
 head_split rows =

@@ -46,7 +46,7 @@ pub nothing_open : (text : Option TextParts) → IsOpenText [] [] text → IsOpe
 nothing_open text h =
     let P : List Content → Type 0 = λ written. IsOpenText [] written text in subst P (written_is [] [] text h) h
 
--- after more was written, the open text fits these pieces
+-- after some more records are written, the open text is the one after these pieces
 record Grown (pieces : List Piece) (written : List Content) : Type 0 where
   more : List Content
   text : Option TextParts
@@ -120,7 +120,7 @@ pub closed_from_nothing : (pieces : List Piece) → records_closed_by [] pieces 
 closed_from_nothing pieces =
     sym (closed-append [] pieces ∙ ap (λ (t : List Content). t ++ records_closed_by [] pieces) no_closed_records)
 
--- one more piece
+-- what follows for one more piece, if these further records are written and this text is open after it
 module _ (pieces : List Piece) (p : Piece) (more : List Content) (text : Option TextParts)
     (h : IsOpenText (pieces ++ p ∷ []) (closed_records pieces ++ more) text) where
   pub closed_by_piece : more ≡ records_closed_by pieces (p ∷ [])
@@ -132,7 +132,7 @@ module _ (pieces : List Piece) (p : Piece) (more : List Content) (text : Option 
       let P : List Content → Type 0 = λ written. IsOpenText (pieces ++ p ∷ []) written text in
       subst P (written_is (pieces ++ p ∷ []) (closed_records pieces ++ more) text h) h
 
--- the closed texts and the last one are all texts
+-- the records of the closed texts and of the last text are those of all texts
 pub all_records : (pieces : List Piece) → closed_records pieces ++ last_records pieces ≡ text_records pieces
 unfolding closed_records last_records
 all_records pieces =
@@ -143,7 +143,7 @@ pub last_is : (pieces : List Piece) (more : List Content) → closed_records pie
     → more ≡ last_records pieces
 last_is pieces more e = append_cancel_left (closed_records pieces) more (last_records pieces) (e ∙ sym (all_records pieces))
 
--- the parts of the whole object
+-- the whole object is its head, the records of the closed texts, those of the last text, and the end of the module
 pub in_parts : (rows : List DirectoryRow) (pieces : List Piece) → object_contents rows pieces
     ≡ head_contents rows ++ (records_closed_by [] pieces ++ (last_records pieces ++ EndOfModule ∷ []))
 in_parts rows pieces =
@@ -250,6 +250,6 @@ pub rest_is : (rows : List DirectoryRow) (more : List Content) → full_records 
     → more ≡ rest_records rows
 rest_is rows more e = append_cancel_left (full_records rows) more (rest_records rows) (e ∙ sym (all_directory rows))
 
--- the first rows of a directory fill all its full records
+-- rows added to an empty directory fill all the full records of these rows
 pub from_nothing : (rows : List DirectoryRow) → records_filled_by [] rows ≡ full_records rows
 from_nothing rows = sym (full-append [] rows ∙ ap (λ (t : List Content). t ++ records_filled_by [] rows) no_full_records)

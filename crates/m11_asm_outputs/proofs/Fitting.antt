@@ -19,7 +19,7 @@ all_fit-append (x ∷ xs) ys first second = (first.0, all_fit-append xs ys first
 pub fit_as : (xs ys : List Content) → xs ≡ ys → AllFit xs → AllFit ys
 fit_as xs ys e fit = subst AllFit e fit
 
--- a consequence of what a call promises if it is Ok
+-- if a call promises something when it succeeds, it also promises what follows from it
 pub on_ok : {A : Type 0} (result : Result A AsmFault) (P Q : Type 0) → (P → Q) → OnOk result P → OnOk result Q
 on_ok (Ok value) P Q follows holds = follows holds
 on_ok (Err fault) P Q follows holds = tt

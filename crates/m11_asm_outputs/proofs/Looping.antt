@@ -22,18 +22,18 @@ pub one_content : (content : Content) → content_writes (content ∷ []) ≡ to
 unfolding content_writes
 one_content content = refl
 
--- the same writes, by an equation
+-- equal writes are made with the same result
 pub writes_as : {A : Type 0} (a b : Outputs) (xs ys : List Write) (result : Result A AsmFault) → xs ≡ ys
     → Writes a b xs result → Writes a b ys result
 writes_as a b xs ys result e h = let P : List Write → Type 0 = λ these. Writes a b these result in subst P e h
 
--- the same line, by an equation
+-- an equal line of the messages is written with the same result
 pub line_as : {A : Type 0} (a b : Outputs) (xs ys : List ℕ) (result : Result A AsmFault) → xs ≡ ys
     → Writes a b (to_messages xs ∷ []) result → Writes a b (to_messages ys ∷ []) result
 line_as a b xs ys result e h =
     let P : List ℕ → Type 0 = λ these. Writes a b (to_messages these ∷ []) result in subst P e h
 
--- the item at which a loop is
+-- the items left at an index of a list begin with the item at that index
 pub item_left : {X : Type 0} (items : List X) (index : ℕ) (item : X) → index < length items
     → item ≡ get_or items index item → drop index items ≡ item ∷ drop (index + 1) items
 item_left {X} items index item h is =

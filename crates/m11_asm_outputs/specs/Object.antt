@@ -1,6 +1,6 @@
--- The object that an assembly writes, and how much of it can be written before all pieces are known. (RT-11 Volume and File Formats
--- Manual, "Object file format", for the order of its records. This project's own: a text is written once a piece comes that doesn't
--- fit it, and the last text at the end.)
+-- The object that an assembly writes, and how much of it can be written before all pieces are known. (RT-11 Volume and File Formats Manual,
+-- "Object file format", for the order of its records. This project's own: a text is written once a piece comes that doesn't directly follow
+-- it or doesn't fit into it, and the last text at the end.)
 use Rattle.std.specs.Prelude.{◌≡◌, ℕ, ◌-◌, List, [], ◌∷◌, ◌++◌, length, take, drop, map, Option, None, Ok}
 use Rattle.std.specs.List.{AllByRecursion, flat_map}
 use Rattle.arrayvec.specs.ArrayVec.{ArrayVec}
@@ -25,11 +25,11 @@ head_contents rows = directory.directory_records rows ++ EndOfGsd ∷ []
 abbrev pub object_contents : List DirectoryRow → List Piece → List Content
 object_contents rows pieces = head_contents rows ++ text_records pieces ++ EndOfModule ∷ []
 
--- each record fits its block: its names and numbers are in range, and a block has room for all of them
+-- each record fits its block: its names and numbers are in range, and a block has room for the whole record
 abbrev pub AllFit : List Content → Type 0
 AllFit contents = AllByRecursion Fits contents
 
--- each record is written as a block
+-- the writes of these records, each as a block
 unfoldable pub content_writes : List Content → List Write
 content_writes contents = map (λ content. to_product (block (record_data content))) contents
 
@@ -55,7 +55,7 @@ texts_of pieces = texts_after None (cutting pieces)
 unfoldable pub closed_records : List Piece → List Content
 closed_records pieces = flat_map records_of (without_last (texts_of pieces))
 
--- the records of the last text, if there is a piece
+-- the records of the last text, if there are any pieces
 unfoldable pub last_records : List Piece → List Content
 last_records pieces = flat_map records_of (last_alone (texts_of pieces))
 
@@ -87,6 +87,6 @@ WaitsAfter rows waiting = directory.IsOpenDirectory rows (full_records rows) wai
 abbrev pub BlockFits : ArrayVec ℕ → Type 0
 BlockFits block = (content : Content) → content_of block.items ≡ Ok content → Fits content
 
--- the bytes of each record, written as a block
+-- the writes of these records, given by their bytes, each as a block
 unfoldable pub block_writes : List (ArrayVec ℕ) → List Write
 block_writes blocks = map (λ content. to_product (block content.items)) blocks

@@ -6,8 +6,8 @@ ghost use Rattle.m11_obj.specs.declared.directory.DirectoryRow.{DirectoryRow};
 ghost use Rattle.m11_obj.specs.declared.pieces.Piece.{Piece};
 ghost use Rattle.m11_asm_outputs.specs.Object.{closed_records, head_contents, last_records, object_contents, records_closed_by};
 
-/// Further pieces leave the closed texts as they are and close others after them. Without further pieces no text is closed, and pieces
-/// added in several parts close the same texts as when added all at once.
+/// Further pieces leave the texts that are already closed as they are; any texts that they close come after those. Without further pieces
+/// no text is closed, and pieces added in several parts close the same texts as when added all at once.
 pub fn pieces_close_texts_in_turn()
     ensures kept { (before pieces : List Piece)
         → closed_records (before ++ pieces) ≡ closed_records before ++ records_closed_by before pieces }

@@ -25,7 +25,7 @@ use m11_obj::{
 };
 use std::alloc::Global;
 
-/// Writes what precedes the texts: the records of a directory with these rows, and its end.
+/// Writes what precedes the texts: the records of a directory with these rows, and the directory's end.
 ///
 /// Faults: `Write` of the object, and `NoMemory` before a record.
 pub fn put_head<S: Sink>(
@@ -65,8 +65,8 @@ fn put_rows<S: Sink>(
     Ok(())
 }
 
-// Adds a row to the directory, and writes the record that was full before it, if there was one. The row is in the directory even if the
-// write fails.
+// Adds a row to the directory. If the last record was already full, that record is written, and the row begins another one. The row is in
+// the directory even if the write fails.
 fn put_row<S: Sink>(
     alloc: Global,
     object: &mut S,
@@ -123,15 +123,16 @@ fn put_if_full<S: Sink>(
     }
 }
 
-/// The open text before the first piece.
+/// The state before the first piece: no text is open.
 pub fn open_text() -> OpenText
     ensures { IsOpenAfter [] result }
 {
     OpenText::new()
 }
 
-/// Adds what a line emits, starting at a location of a section, and writes the texts that are then closed. A text is closed once a
-/// piece comes that doesn't fit it. What isn't written stays in the open text until a further piece closes it, or `put_last` is called.
+/// Adds what a line emits, starting at a location of a section, and writes the texts that are then closed. A text is closed once a piece
+/// comes that doesn't directly follow it or doesn't fit into it. What isn't written stays in the open text until a further piece closes it,
+/// or `put_last` is called.
 ///
 /// Faults: `Write` of the object, and `NoMemory` before a record. After a fault the open text is of no use.
 pub fn put_pieces<S: Sink>(
@@ -193,7 +194,7 @@ fn put_piece<S: Sink>(
     put_closing(alloc, object, text, piece)
 }
 
-// Adds a piece, and writes the text that it closes, if any, whatever the piece is.
+// Adds a piece that may close the open text, and writes the text that it closes, if any.
 // speed: a call, since inlined it would clear room for a text at each piece.
 #[inline(never)]
 fn put_closing<S: Sink>(
@@ -214,7 +215,7 @@ fn put_closing<S: Sink>(
     put_if_closed(alloc, object, &closed)
 }
 
-/// Writes what follows all pieces: the last text, if there is a piece, and the end of the module.
+/// Writes what follows all pieces: the last text, if there are any pieces, and the end of the module.
 ///
 /// Faults: `Write` of the object, and `NoMemory` before a record.
 pub fn put_last<S: Sink>(alloc: Global, object: &mut S, text: OpenText) -> Result<(), AsmFault>

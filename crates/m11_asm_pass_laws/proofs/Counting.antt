@@ -18,9 +18,9 @@ use Rattle.m11_unfold_rules.specs.declared.fault.UnfoldFault.TheVariants.{TooMan
 use Rattle.m11_unfold_rules.proofs.Cases.{fault_from, move_from, taking_fault}
 use Rattle.m11_asm_passes.proofs.Counting.{act_takes, giving_takes, leads_takes}
 
--- ---- a line that is read without passing a limit
+-- ---- a line that is read without exceeding a limit
 
--- the count of lines isn't at its limit
+-- if no limit is exceeded, the count of lines isn't at its limit
 pub has_room : (is_full : Bool) (other : Option UnfoldFault) → (if is_full then Some TooManyLines else other) ≡ None → is_full ≡ false
 has_room true other none = absurd (cc)
 has_room false other none = refl
@@ -47,11 +47,11 @@ giving_below stage after live fits moves = below_by stage.has_ended stage.left s
 -- ---- the lines of a pass
 
 module _ (map_ : Map) (counting : Counting) where
-  -- one more live line
+  -- with one more live line, there is one line more
   one_more : (all : List NumberedLine) (one : NumberedLine) → length (all ++ one ∷ []) ≡ length all + 1
   one_more all one = length-append all (one ∷ [])
 
-  -- each of them was read
+  -- there are no more live lines than lines read
   pub were_taken : (source : List SourceLine) (all : List NumberedLine) (stage : Stage) → PassLines map_ counting source all stage
       → length all ≤ stage.taken
   were_taken _ _ _ lines.PassLines.Begins = omega arith

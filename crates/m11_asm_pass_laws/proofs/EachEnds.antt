@@ -1,4 +1,4 @@
--- Each pass over lines reaches its end, or passes a limit.
+-- Each pass over lines reaches its end, or exceeds a limit.
 use Rattle.std.proofs.Common.{◌≡◌, ◌∙◌, ◌<◌, ℕ, ◌+◌, zero, suc, Bool, true, false, List, [], ◌∷◌, ◌++◌, length, append_assoc, Option, Some, None, inl, inr, refl, sym, ap, arith}
 use Rattle.m11_asm_faults.specs.Faults.{of_unfolding}
 use Rattle.m11_asm_faults.specs.declared.fault.AsmFault.{AsmFault}
@@ -20,11 +20,11 @@ use Rattle.m11_asm_pass_laws.specs.Ends.{HasEnd}
 use Rattle.m11_asm_pass_laws.specs.Ends as ends
 
 module _ (map_ : Map) (counting : Counting) (all : List SourceLine) where
-  -- the lines to read, and the moves left
+  -- the number of lines still to be read, plus the work left in unfolding
   abbrev work : List SourceLine → Stage → ℕ
   work more stage = length more + work_left stage
 
-  -- with less than this left to do
+  -- each pass with less than this left to do has an end
   abbrev Ends : ℕ → Type 0
   Ends most = (source more : List SourceLine) (placed : List NumberedLine) (stage : Stage) → PassLines map_ counting source placed stage
       → source ++ more ≡ all → work more stage < most → HasEnd map_ counting all

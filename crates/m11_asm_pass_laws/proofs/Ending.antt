@@ -1,4 +1,4 @@
--- A pass over a source has only one end, or passes only one limit.
+-- A pass over a source has only one end, or exceeds only one limit.
 use Rattle.std.proofs.Common.{◌≡◌, ◌∙◌, List, ◌++◌, Some, None, inl, inr, sym, ap, subst}
 use Rattle.m11_asm_faults.specs.Faults.{of_unfolding}
 use Rattle.m11_asm_faults.specs.declared.fault.AsmFault.{AsmFault}
@@ -17,12 +17,12 @@ use Rattle.m11_asm_pass_laws.specs.Ends.{ExceedsAfter, EndsAfter, IsOver}
 use Rattle.m11_asm_pass_laws.proofs.Onward.{one_end}
 use Rattle.m11_asm_pass_laws.proofs.Stepping.{At, LeadsTo, at, begin, exceeds_at, exceeds_before, ended_fits, ended_rests, ended_stops, none_fits, none_rests, read_stops, reached, step}
 
--- no limit is passed here, and nothing is left
+-- at this stage no limit is exceeded, and nothing is left
 record IsQuiet (stage : Stage) : Type 0 where
   fits : next_fault stage ≡ None
   rests : move stage ≡ NothingLeft
 
--- the fault of the next move
+-- the next move fails with this fault
 data NextFails (map_ : Map) (counting : Counting) (lines : List NumberedLine) (stage : Stage) (fault : AsmFault) : Type 0 where
   Before : (inner : UnfoldFault) → next_fault stage ≡ Some inner → fault ≡ of_unfolding inner → NextFails map_ counting lines stage fault
   Within : (live : Live) (after : Stage) → next_fault stage ≡ None → move stage ≡ Gives live after
@@ -56,7 +56,7 @@ one_fault map_ counting lines stage fault other (Within live after fits moves re
     let here = subst Q same_after (subst P same_live refused) in
     let faults : Some fault ≡ Some other = sym here ∙ refused' in cc
 
--- and none if no limit is passed and nothing is left
+-- the next move has no fault if no limit is exceeded and nothing is left
 none_fails : (map_ : Map) (counting : Counting) (lines : List NumberedLine) (stage : Stage) (fault : AsmFault) → IsQuiet stage
     → NextFails map_ counting lines stage fault → ⊥
 none_fails map_ counting lines stage fault quiet (Before inner fails is) =

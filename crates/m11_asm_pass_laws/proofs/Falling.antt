@@ -99,7 +99,7 @@ operation_depth known text stage (Calls macro column) =
     (record stage { created = filling.created })
 operation_depth known text stage (OwnDirective of column) = directive_depth known text column stage of
 
--- an operator adds at most one
+-- an operator adds at most one to the work left
 pub acts_falling : (known : KnownSymbols) (stage : Stage) (text : Bytes) → work_left (act known stage text).after ≤ work_left stage + 1
 acts_falling known stage text =
     let deeper = operation_depth known text stage (operation stage.conditions stage.macros text) in
@@ -110,7 +110,7 @@ acts_falling known stage text =
 
 -- ---- what is left after a move
 
--- two less after a line that becomes live, otherwise one less
+-- less work is left after a move than before it, and at least two less if a line becomes live
 abbrev Falls : ℕ → Move → Type 0
 Falls work NothingLeft = Unit {0}
 Falls work (Passes after) = work_left after < work

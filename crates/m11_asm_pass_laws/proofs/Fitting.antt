@@ -1,4 +1,4 @@
--- A line that passes no limit in one pass passes none in a second pass that has the same line and counts only definitions.
+-- A line that exceeds no limit in one pass exceeds none in a second pass that has the same line and counts only definitions.
 use Rattle.std.proofs.Common.{◌≡◌, ◌∙◌, ℕ, suc, ◌||◌, Bool, true, false, List, [], ◌∷◌, ◌++◌, length, map, Option, Some, None, refl, sym, ap}
 use Rattle.std.specs.Option.{option_or}
 use Rattle.std.specs.Prelude.{if◌then◌else◌, nat_lt, option_map}
@@ -39,7 +39,7 @@ limit_none (Some TooManySymbols) none = absurd (cc)
 limit_none (Some TooManySections) none = absurd (cc)
 limit_none None none = refl
 
--- each limit by itself
+-- if neither kind of limit is exceeded, then neither are the definitions and the sections by themselves
 limits_by : (names many sections : Bool)
     → (if names || many then Some TooManySymbols else (if sections then Some TooManySections else None)) ≡ None
     → (many ≡ false) × (sections ≡ false)
@@ -58,7 +58,7 @@ limits : (names : List Name) (table : Table) → limit_fault names table ≡ Non
 limits names table none =
     limits_by (nat_lt most_names (length names)) (has_too_many table) (nat_lt most_sections (length table.sections)) none
 
--- a line that passes no limit
+-- a live line exceeds no limit: not with its labels, not with its operator, and not when it is placed
 pub record Fits (map : Map) (table : Table) (counting : Counting) (live : Live) (stage : Stage) : Type 0 where
   labels : labels_fault counting table live.line.text ≡ None
   acts : option_map of_unfolding (act_fault stage live.line.text) ≡ None

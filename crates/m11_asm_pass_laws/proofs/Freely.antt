@@ -102,7 +102,7 @@ module _ (alike : PlaceAlike) (one other : Map) where
       onward.Onward.Goes middle after (goes_freely counting before middle leads)
       (sym (freely_alike middle) ∙ is_freer one counting middle after goes)
 
--- ---- at its end it has no step either
+-- ---- at the end of a pass, there is no step either
 
 pub over_freely : (map : Map) (here : At) → IsOver here.more here.stage → freely map here ≡ None
 over_freely map here (inl ended) =
@@ -112,7 +112,7 @@ over_freely map here (inr (all, none, goes)) =
     freely_moved map here NothingLeft (none_fits here.stage none goes) (none_rests here.stage none goes)
     ∙ ap (λ (b : Bool). reads b here.more here) goes ∙ ap (λ (ls : List SourceLine). reads false ls here) all
 
--- ---- of two passes over beginnings of one source, one goes on from the lines of the other
+-- ---- of two passes over prefixes of one source, the live lines of one begin with those of the other
 
 module _ (map : Map) where
   grows_moved : (by : Move) (here : At) → Grows here (freely_by map by here)

@@ -1,4 +1,4 @@
--- Of two passes over beginnings of one source, one goes on from the lines of the other.
+-- Of two passes over prefixes of one source, the live lines of one begin with those of the other.
 use Rattle.std.proofs.Common.{◌≡◌, ◌∙◌, Bool, true, false, List, [], ◌∷◌, ◌++◌, length, append_assoc, append-nil, Option, Some, None, inl, inr, refl, sym, ap, subst}
 use Rattle.std.specs.Prelude.{◌⊎◌}
 use Rattle.m11_asm_faults.specs.declared.fault.AsmFault.{AsmFault}
@@ -16,7 +16,7 @@ use Rattle.m11_asm_pass_laws.proofs.Onward.{Onward, in_order}
 use Rattle.m11_asm_pass_laws.proofs.Onward as onward
 use Rattle.m11_asm_pass_laws.proofs.Stepping.{At, at, begin, LeadsTo, moves_by, places, reached, reads, step, within}
 
--- a step adds lines at the end, or none
+-- a step adds live lines at the end, or none
 abbrev pub Grows : At → Option At → Type 0
 Grows before None = Unit {0}
 Grows before (Some after) = BeginWith after.lines before.lines
@@ -26,7 +26,7 @@ grows_read true more here = tt
 grows_read false [] here = tt
 grows_read false (line ∷ more) here = ([], sym (append-nil here.lines))
 
--- and so do any number of steps
+-- so any number of steps adds live lines at the end, or none
 module _ (go : At → Option At) (grows : (here : At) → Grows here (go here)) where
   further : (first middle last : List NumberedLine) → BeginWith middle first → BeginWith last middle → BeginWith last first
   further first middle last (more, whole) (others, whole') =

@@ -40,7 +40,7 @@ own_after map lines given =
     after_both map lines (own_line given ∷ []) first_table ∙ own_stands map (table_after map lines) given
 
 module _ (alike : PlaceAlike) (one other : Map) where
-  -- so it is the same after the labels of a line
+  -- so the firm part of the table is also the same after the labels of a line
   pub stands_alike : (lines : List UnfoldedLine) (given : UnfoldedLine)
       → firm_table (stands (table_after one lines) given) ≡ firm_table (stands (table_after other lines) given)
   stands_alike lines given =
@@ -51,7 +51,7 @@ module _ (alike : PlaceAlike) (one other : Map) where
       → known_after_labels (stands (table_after one lines) given) ≡ known_after_labels (stands (table_after other lines) given)
   told_alike lines given = ap (λ (t : Table). known_at empty_map LocalOnly t (location t)) (stands_alike lines given)
 
-  -- a line that becomes live is the same line
+  -- a line that becomes live, with what is known at it, is the same under any two maps
   pub given_alike : (lines : List NumberedLine) (live : Live) (stage : Stage)
       → given_by (table_at one lines) live stage ≡ given_by (table_at other lines) live stage
   given_alike lines live stage =

@@ -22,7 +22,7 @@ use Rattle.m11_scan_statements.specs.declared.labels.LabelKind.TheVariants as ki
 use Rattle.m11_asm_rules.proofs.LastDefinitions.{key_equal, key_itself, last_more}
 use Rattle.m11_unfold_rules.specs.Unfolding.{UnfoldedLine}
 
--- the last definition of a key, in a table
+-- this label is the last definition of the key in a table
 abbrev pub IsAtLevel : Key → Definition → Table → Type 0
 IsAtLevel key label table = last_definition key table.definitions ≡ Some label
 
@@ -46,7 +46,7 @@ module _ (key : Key) (label : Definition) (is_label : is_some label.label ≡ tr
       → is_labelled key definitions ≡ false → ⊥
   not_labelled definitions stands none = true≢false (sym is_label ∙ ap is_of_label (sym stands) ∙ none)
 
-  -- a key without a property of this one is another key
+  -- a key that lacks a property of this key is another key
   other_key : (P : Key → Bool) (other : Key) (is_this : Bool) → is_same other key ≡ is_this → P other ≡ false
       → (P key ≡ false → ⊥) → is_same other key ≡ false
   other_key P other false same fails holds = same

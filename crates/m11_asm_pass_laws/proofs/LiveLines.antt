@@ -1,4 +1,4 @@
--- Under maps that agree a source has the same live lines, with the same table, counted names and limits after each of them.
+-- Under maps that agree, a source has the same live lines, with the same table, counted names and limits after each of them.
 use Rattle.std.proofs.Common.{◌≡◌, ◌∙◌, List, [], ◌∷◌, ◌++◌, length, refl, sym, ap, subst}
 use Rattle.m11_asm_faults.specs.declared.fault.AsmFault.{AsmFault}
 use Rattle.m11_scan.specs.Line.{SourceLine}

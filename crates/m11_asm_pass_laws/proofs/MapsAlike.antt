@@ -1,4 +1,4 @@
--- Under maps that agree a line emits and changes the same, with the same flags and the same fault.
+-- Under maps that agree, a line emits the same contents and makes the same change, with the same flags and the same fault.
 use Rattle.std.proofs.Common.{◌≡◌, ◌∙◌, ℕ, Bool, if◌then◌else◌, List, [], ◌∷◌, true, map, Option, Some, None, refl, ap}
 use Rattle.std.proofs.Math.Path.{fun_ext}
 use Rattle.std.specs.Int.RustNames.{bit_or}

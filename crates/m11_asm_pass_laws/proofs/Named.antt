@@ -88,13 +88,13 @@ none_by (Ordinary name) names there = ap (λ (b : Bool). if b then names else na
 none_by (Local number) names there = refl
 none_by Counter names there = refl
 
--- they add none
+-- uses of names that are all counted already add no names
 pub adds_none : (some : List SymbolUse) (names : List Name) → AreThere some names → with_uses some names ≡ names
 adds_none [] names there = refl
 adds_none (symbol_use ∷ some) names there =
     ap (with_uses some) (none_by symbol_use.symbol names there.0) ∙ adds_none some names there.1
 
--- they are there after further uses
+-- a symbol that is already counted still is after a further use
 there_by : (symbol other : Symbol) (names : List Name) → IsThere symbol names → IsThere symbol (with_symbol other names)
 there_by (Ordinary name) other names there = symbol_stays name other names there
 there_by (Local number) other names there = tt
@@ -118,7 +118,7 @@ lines_keep map table (given ∷ lines) some names there =
     lines_keep map (after_line map table given) lines some (with_uses (symbol_uses table given) names)
     (all_stay some (symbol_uses table given) names there)
 
--- and after these uses
+-- a symbol is counted once it is used
 one_there : (symbol : Symbol) (names : List Name) → IsThere symbol (with_symbol symbol names)
 one_there (Ordinary name) names = now_there name (is_counted name names) names refl
 one_there (Local number) names = tt

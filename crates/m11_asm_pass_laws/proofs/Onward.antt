@@ -7,7 +7,7 @@ pub data Onward (A : Type 0) (step : A → Option A) (before : A) : A → Type 0
   Stays : Onward A step before before
   Goes : (middle after : A) → Onward A step before middle → step middle ≡ Some after → Onward A step before after
 
--- in no step, or in a first one and others
+-- a state is reached in no step, or in a first step and further ones
 data First (A : Type 0) (step : A → Option A) (before after : A) : Type 0 where
   Still : after ≡ before → First A step before after
   Moved : (next : A) → step before ≡ Some next → Onward A step next after → First A step before after
@@ -27,7 +27,7 @@ module _ (A : Type 0) (step : A → Option A) where
   one_next before next other steps steps' =
       let both : Some next ≡ Some other = sym steps ∙ steps' in cc
 
-  -- if the first goes one step further, the second made the same step or is no further
+  -- of the next state after a state and any state reached from that state, one is reached from the other
   goes_too : (middle after other : A) → step middle ≡ Some after → First A step middle other
       → Onward A step after other ⊎ Onward A step other after
   goes_too middle after other steps (Still same) =
@@ -78,12 +78,13 @@ module _ (A : Type 0) (step loose : A → Option A) (is_looser : (here next : A)
       let P : A → Type 0 = λ s. step before ≡ Some s in
       let Q : A → Type 0 = λ s. Onward A step s after in (subst P same begins, subst Q same on)
 
-  -- on its way to a state without a step of the second kind, the first kind makes each step that the second makes
+  -- steps of the first kind that lead to a state from which there is no step of the second kind include each step of the second kind on the
+  -- way
   pub next_of : (before after next : A) → loose before ≡ Some next → loose after ≡ None → Onward A step before after
       → (step before ≡ Some next) × Onward A step next after
   next_of before after next goes stops leads = next_by before after next goes stops (first_step A step before after leads)
 
-  -- so it reaches what the second kind reaches
+  -- so steps of the first kind reach each state that steps of the second kind reach on the way
   pub on_the_way : (before end here : A) → loose end ≡ None → Onward A step before end → Onward A loose before here
       → Onward A step here end
   on_the_way before end _ stops leads Onward.Stays = leads

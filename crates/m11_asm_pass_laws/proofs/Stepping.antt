@@ -33,7 +33,7 @@ at source more all stage = record { source = source; more = more; lines = all; s
 abbrev pub begin : List SourceLine → At
 begin all = at [] all [] (start [])
 
--- ---- if nothing is left or `.END` is live, no limit is passed and nothing is read
+-- ---- if nothing is left or `.END` is live, no limit is exceeded and nothing is read
 
 pub ended_fits : (stage : Stage) → stage.has_ended ≡ true → next_fault stage ≡ None
 ended_fits stage ended = ap (λ (b : Bool). if b then None else fault_from stage.left stage) ended
@@ -49,7 +49,7 @@ pub none_rests : (stage : Stage) → stage.left ≡ [] → stage.has_ended ≡ f
 none_rests stage none goes =
     ap (λ (b : Bool). if b then NothingLeft else move_from stage.left stage) goes ∙ ap (λ (l : List RemainingItem). move_from l stage) none
 
--- one more line of the source, unless `.END` is live
+-- the state after one more line of the source is read; None if no line is left or `.END` is live
 abbrev pub reads : Bool → List SourceLine → At → Option At
 reads true more here = None
 reads false [] here = None
@@ -58,7 +58,7 @@ reads false (line ∷ more) here = Some (at (here.source ++ line ∷ []) more he
 module _ (map_ : Map) (counting : Counting) where
   -- ---- a step
 
-  -- a live line that passes no limit
+  -- the state after a live line is placed; None if the line exceeds a limit
   abbrev pub places : Option AsmFault → Live → Stage → At → Option At
   places (Some fault) live after here = None
   places None live after here = Some
@@ -66,14 +66,14 @@ module _ (map_ : Map) (counting : Counting) where
       (here.lines ++ numbered (length here.source) (given_by (table_at map_ here.lines) live after) ∷ [])
       (acted (table_at map_ here.lines) live after))
 
-  -- the next state by a move
+  -- the next state after a move, if there is one
   abbrev pub moves_by : Move → At → Option At
   moves_by NothingLeft here = reads here.stage.has_ended here.more here
   moves_by (Passes after) here = Some (at here.source here.more here.lines after)
   moves_by (Gives live after) here =
       places (line_fault map_ (table_at map_ here.lines) (counting_at map_ counting here.lines) live after) live after here
 
-  -- none if the next move passes a limit
+  -- the next state, if there is one; None if the next move exceeds a limit
   abbrev pub within : Option UnfoldFault → At → Option At
   within (Some fault) here = None
   within None here = moves_by (move here.stage) here
@@ -85,19 +85,19 @@ module _ (map_ : Map) (counting : Counting) where
   abbrev pub LeadsTo : At → At → Type 0
   LeadsTo before after = Onward At step before after
 
-  -- ---- if no limit is passed, the move decides the step
+  -- ---- if no limit is exceeded, the move decides the step
 
   pub moved : (here : At) (next : Move) → next_fault here.stage ≡ None → move here.stage ≡ next → step here ≡ moves_by next here
   unfolding step
   moved here next fits moves =
       ap (λ (f : Option UnfoldFault). within f here) fits ∙ ap (λ (m : Move). moves_by m here) moves
 
-  -- a limit is passed before the next live line
+  -- if a limit is exceeded before the next live line, there is no next state
   pub exceeds_before : (here : At) (fault : UnfoldFault) → next_fault here.stage ≡ Some fault → step here ≡ None
   unfolding step
   exceeds_before here fault exceeds = ap (λ (f : Option UnfoldFault). within f here) exceeds
 
-  -- the next live line passes a limit
+  -- if the next live line exceeds a limit, there is no next state
   pub exceeds_at : (here : At) (live : Live) (after : Stage) (fault : AsmFault) → next_fault here.stage ≡ None
       → move here.stage ≡ Gives live after
       → line_fault map_ (table_at map_ here.lines) (counting_at map_ counting here.lines) live after ≡ Some fault → step here ≡ None
@@ -138,7 +138,7 @@ module _ (map_ : Map) (counting : Counting) where
   not_empty [] one none = cc
   not_empty (first ∷ done) one none = cc
 
-  -- moves by which no line becomes live
+  -- a state that is reached still is after moves by which no line becomes live
   passed_on : (before : At) (source more : List SourceLine) (all : List NumberedLine) (stage after : Stage) (done : List UnfoldedLine)
       → Leads stage done after → done ≡ [] → LeadsTo before (at source more all stage) → LeadsTo before (at source more all after)
   passed_on before source more all stage _ _ steps.Leads.Stays none leads = leads

@@ -39,7 +39,7 @@ use Rattle.m11_asm_pass_laws.specs.Beginnings.{BeginWith}
 use Rattle.m11_asm_pass_laws.specs.Ends.{EndsAfter}
 use Rattle.m11_asm_pass_laws.specs.Second.{map_from, moved_after}
 
--- labels of the first table are labels of the second
+-- each label that is the last definition of its key in the first table is so in the second
 abbrev Keeps : Table → Table → Type 0
 Keeps table final = (key : Key) (label : Definition) → is_some label.label ≡ true → IsAtLevel key label table → IsAtLevel key label final
 
@@ -87,7 +87,7 @@ module _ (map : Map) (final : Table)
       unmoved_by (is_defined key table.definitions) (is_location_of table (last_definition key map.definitions))
       (λ none. found_location table key (last_definition key map.definitions) (solves key ∙ ap label_or_value (stands none)))
 
-  -- a label of a key without a definition defines the key
+  -- a label whose key has no definition defines the key
   name_by : (is_there is_global : Bool) (table : Table) (name : Name) → is_there ≡ false
       → IsAtLevel (Named name) (labelled table) (if is_there then with_doubly_defined (Named name) table
       else global_if is_global name (with_block (with_definition (Named name) (labelled table) table)))
@@ -149,7 +149,7 @@ none_moved map before more one solves =
 
 -- ---- in a second pass over the lines of a first one
 
--- the map of a source solves it
+-- the map of each source solves the source
 abbrev pub MapSolves : Type 0
 MapSolves = (lines : List UnfoldedLine) → Solves (program_map lines) lines
 

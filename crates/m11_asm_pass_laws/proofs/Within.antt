@@ -1,4 +1,4 @@
--- A second pass over the lines of a first one passes no limit.
+-- A second pass over the lines of a first one exceeds no limit.
 use Rattle.std.proofs.Common.{◌≡◌, ◌∙◌, List, [], ◌∷◌, ◌++◌, Option, Some, None, inl, inr, refl, sym, ap, subst}
 use Rattle.std.proofs.lemmas.List.{map-append}
 use Rattle.m11_asm_faults.specs.declared.fault.AsmFault.{AsmFault}
@@ -41,7 +41,7 @@ module _ (alike : PlaceAlike) (one other : Map) (names : List Name) (all : List 
       (lines_before one first_table (givens before) (givens further) full
       (subst P (ap givens whole ∙ map-append (λ (line : NumberedLine). line.given) before further) (lines_there one first_table (givens all) names)))
 
-  -- some of the lines add no names
+  -- the first of the lines add no names to those of all lines
   add_none : (before : List NumberedLine) → BeginWith all before → names_after other first_table (givens before) full ≡ full
   add_none before begins = lines_add_none other first_table (givens before) full (there before begins.0 begins.1)
 

@@ -10,7 +10,7 @@ use Rattle.m11_asm_lines.specs.Moved.{moved_flags}
 abbrev pub map_from : List NumberedLine → Map
 map_from lines = program_map (givens lines)
 
--- P if a label that a line defines, once the lines before it are placed, isn't at the same location in the map
+-- P if a line, placed after these lines, defines a label that isn't at the same location in the map
 abbrev pub moved_after : Map → List NumberedLine → NumberedLine → ℕ
 moved_after map before one =
     moved_flags map one.given.live.line.text (table_at map before) (labels_at one.given.live.line.text)

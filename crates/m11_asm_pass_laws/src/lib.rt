@@ -1,6 +1,6 @@
 //! Laws of passes over one source. Any two that reach their end have the same live lines and the same end. Under maps that agree, lines are
 //! placed in the same way. A second pass over the lines of a first one moves no label and exceeds no limit. Each law is the contract of a
-//! function that does nothing, or only calls the laws from which its own follows. (MACRO-11 Language Reference Manual, "Symbols".)
+//! function that does nothing, or only calls the laws needed to prove it. (MACRO-11 Language Reference Manual, "Symbols".)
 #![tactic(auto)]
 
 mod laws;

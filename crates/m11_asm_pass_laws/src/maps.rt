@@ -19,8 +19,8 @@ ghost use Rattle.m11_asm_passes.specs.Reaching.{Exceeds};
 ghost use Rattle.m11_asm_passes.specs.Refusals.{line_fault};
 ghost use Rattle.m11_asm_pass_laws.specs.Maps.{MapsAgree};
 
-/// Under maps that agree, each line, whatever table is before it, emits the same contents, makes the same change, and has the same pieces,
-/// flags and fault. After any lines the table is the same, and so are the counted names.
+/// Under maps that agree, each line emits the same contents, makes the same change, and has the same pieces, flags and fault, whatever
+/// table is before the line. After any lines the table is the same, and so are the counted names.
 pub fn maps_that_agree_place_lines_alike()
     ensures puts { (one other : Map) → MapsAgree one other → (table : Table) (given : UnfoldedLine)
         → line_emission one table given ≡ line_emission other table given }

@@ -1,5 +1,5 @@
 //! Laws of any two passes over one source, and of a second pass over the lines of a first one. Each is the contract of a function that only
-//! calls the laws from which its own follows.
+//! calls the laws needed to prove it.
 
 ghost use Rattle.std.specs.Prelude.{◌≡◌, ◌⊎◌, ◌++◌, ◌∷◌, List};
 ghost use Rattle.m11_asm_faults.specs.declared.fault.AsmFault.{AsmFault};
@@ -18,10 +18,10 @@ ghost use Rattle.m11_unfold_rules.specs.Stages.{Stage};
 
 use m11_asm_rules::{placements_are_the_same_under_every_map, the_map_of_a_source_solves_it};
 
-/// Any two passes read the same lines in the same way, whatever their maps are and whichever names they count. No map decides which
-/// lines become live, what is known at them, or which flags and symbols unfolding finds in them. Of two passes over prefixes of one
-/// source, the live lines of one begin with those of the other. If one is at its end, its live lines begin with those of the other; if
-/// both are, they have read the same lines, have the same live lines, and are at the same stage.
+/// Any two passes read the same lines in the same way, whatever their maps are and whichever names they count. No map decides which lines
+/// become live, which symbols are known at them, or which flags and symbols unfolding finds in them. Of two passes over prefixes of one
+/// source, the live lines of one begin with those of the other. If one is at its end, its live lines begin with those of the other; if both
+/// are, they have read the same lines, have the same live lines, and are at the same stage.
 pub fn the_same_lines_are_read_alike()
     ensures goes_on { (one other : Map) (counting others : Counting) (all source more read rest : List SourceLine)
         (lines later : List NumberedLine) (stage after : Stage) → PassLines one counting source lines stage
@@ -38,8 +38,8 @@ pub fn the_same_lines_are_read_alike()
 }
 
 /// In a second pass over the lines that a first one read to its end, with the map from these lines, no label has moved, so no line has the
-/// flag P. Each label that defines its key gives the key the location that the map has for it, since no later line gives the key of a
-/// label another definition.
+/// flag P. Each label that defines its key is at the location that the key has in the map, since no later line gives the key of a label
+/// another definition.
 pub fn no_label_has_moved_in_a_second_pass_over_the_same_lines()
     ensures { (one : Map) (counting others : Counting) (all source read rest : List SourceLine)
         (lines later before more : List NumberedLine) (this : NumberedLine) (stage after : Stage)
@@ -50,9 +50,9 @@ pub fn no_label_has_moved_in_a_second_pass_over_the_same_lines()
     the_map_of_a_source_solves_it();
 }
 
-/// If a first pass has read its lines to the end, a second pass over the same lines that counts only defined names exceeds no limit,
-/// whatever its map is. The second pass has the same names, local symbols and sections, and its lines use no name that the lines of the
-/// first pass didn't use.
+/// If a first pass has read its lines to the end, a second pass that goes over the same lines and counts only defined names exceeds no
+/// limit, whatever its map is. The second pass has the same names, local symbols and sections, and its lines use no name that the lines of
+/// the first pass didn't use.
 pub fn a_second_pass_over_the_same_lines_passes_no_limit()
     ensures limits { (one other : Map) (counting : Counting) (all source read : List SourceLine) (lines later : List NumberedLine)
         (stage : Stage) (fault : AsmFault) → EndsAfter one counting all source lines stage

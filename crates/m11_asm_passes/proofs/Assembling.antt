@@ -128,7 +128,7 @@ module _ (map_ : Map) (live : Live) (old middle : PassState) (does : Operation) 
   own : of ≡ action line.is_own line.arguments text
   own = ap (λ (o : actions.Operation). o.action) same_operation
 
-  -- the names counted after the line
+  -- the names counted with the uses of the line are those that its definition counts
   all_so : (all : Counting) → all ≡ with_counted (uses_after stood text done.remarks of) middle.counting
       → all ≡ with_counted (symbol_uses old.table line) old.counting
   all_so all all_are =
@@ -137,13 +137,13 @@ module _ (map_ : Map) (live : Live) (old middle : PassState) (does : Operation) 
       ∙ ap (with_counted (uses_after stood text done.remarks (action done.is_own done.arguments text))) begins.named
       ∙ counting_so map_ old.table live before middle.unfolder.stage done stood old.counting begins.labels.table acts
 
-  -- the table after the line
+  -- the table after the action of the line is the one that its definition has
   table_so : after_action map_ text of stood ≡ after_line map_ old.table line
   table_so =
       ap (λ (d : actions.Action). changed map_ (change_of (firm_table stood) text d) stood) of_done
       ∙ after_so map_ old.table live before middle.unfolder.stage done stood old.counting begins.labels.table acts
 
-  -- the uses pass a limit
+  -- if the uses of the line are refused, the line fails with the same fault
   pub use_fails : (fault : AsmFault)
       → Refuses fault (most_names < length (names_counted (with_counted (uses_after stood text done.remarks of) middle.counting))) ⊥
       → Fails (line_fault map_ old.table old.counting live before) fault
@@ -160,7 +160,7 @@ module _ (map_ : Map) (live : Live) (old middle : PassState) (does : Operation) 
     few_used : length (names_counted (with_counted (symbol_uses old.table line) old.counting)) ≤ most_names
     few_used = let P : Counting → Type 0 = λ g. length (names_counted g) ≤ most_names in subst P (all_so all all_are) few
 
-    -- the line defines one name too many, or enters one section too many
+    -- if the line defines a name or a local symbol too many, or selects a section too many, it fails with the fault of that limit
     pub change_fails : (fault : AsmFault) → Overfills fault (after_action map_ text of stood)
         → Fails (line_fault map_ old.table old.counting live before) fault
     change_fails TooManySymbols many =
@@ -177,7 +177,7 @@ module _ (map_ : Map) (live : Live) (old middle : PassState) (does : Operation) 
     change_fails NoMemory many = tt
     change_fails other many = absurd many
 
-    -- the state of the pass after the line
+    -- if the line is changed and counted within the limits, the pass is in the state after the line
     pub finishes : (new : PassState) → new.unfolder ≡ middle.unfolder → new.counting ≡ all → (item : Option Item)
         → new.table ≡ after_action map_ text of stood
         → option_to_list item ≡ action_items map_ stood of
@@ -268,7 +268,7 @@ module _ (map_ : Map) (live : Live) (old middle : PassState) (does : Operation) 
     is_said = record { live_is = same; action_is = ap (λ (o : Operation). action_in text o) action_so_far ∙ own };
   }
 
--- the effect doesn't depend on what was emitted before
+-- the first half of handling a line says nothing about what the pass has emitted
 pub begins_still : (map_ : Map) (live : Live) (old middle : PassState) (does : Operation) (begun : LabelledLine) (emission : Emission)
     → Begins map_ live old middle does begun → Begins map_ live old (record middle { emission = emission }) does begun
 begins_still map_ live old middle does begun emission begins = record {

@@ -1,4 +1,4 @@
--- A blank line changes nothing and passes no limit.
+-- A blank line changes nothing and exceeds no limit.
 use Rattle.std.proofs.Common.{◌≡◌, ◌∙◌, ◌≤◌, ℕ, ◌||◌, Bool, false, if◌then◌else◌, List, [], ◌++◌, length, map, Option, Some, None, Ok, refl, sym, ap}
 use Rattle.std.specs.Prelude.{nat_lt}
 use Rattle.std.specs.Int.Bits.{or_zero_r}

@@ -1,4 +1,4 @@
--- How many lines are read: a line that becomes live is one more, and its operator reads none.
+-- How many lines are read: each line that becomes live is one more, and its operator reads none.
 use Rattle.std.proofs.Common.{◌≡◌, ◌≤◌, ℕ, ◌+◌, Bool, true, false, if◌then◌else◌, List, [], ◌∷◌, Option, Some, None, refl, subst, arith}
 use Rattle.m11_scan.specs.Line.{SourceLine}
 use Rattle.m11_scan_expressions.specs.Expressions.{KnownSymbols}

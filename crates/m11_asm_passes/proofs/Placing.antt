@@ -67,7 +67,7 @@ or_true : (b : Bool) → (b || true) ≡ true
 or_true true = refl
 or_true false = refl
 
--- the table has too many names or too many local symbols
+-- if a table has too many names or too many local symbols, the exceeded limit is that of symbols
 table_past : (names : List Name) (table : Table) → has_too_many table ≡ true
     → of_limit (limit_fault names table) ≡ Some TooManySymbols
 table_past names table many =
@@ -141,7 +141,7 @@ used_then table given counting =
 
 -- ---- one line, by the table before it
 
--- what unfolding did with the operator of a line
+-- the results of unfolding for the operator of a line
 pub record Act : Type 0 where
   pub is_own : Bool
   pub remarks : Remarks
@@ -211,24 +211,24 @@ module _ (map_ : Map) (table : Table) (live : Live) (before after : Stage) (done
   pub shown_so : action_items map_ stood (action done.is_own done.arguments text) ≡ assigned_items map_ table line
   shown_so = found_so (λ t does. action_items map_ t does)
 
-  -- ---- limits, if the labels pass none
+  -- ---- limits, if the labels exceed none
 
   module _ (fits : labels_fault counting table text ≡ None) where
-    -- the uses pass a limit
+    -- if the line and those before it use too many names, its fault is `TooManySymbols`
     pub uses_refused : most_names < length (names_counted (with_counted (symbol_uses table line) counting))
         → line_fault map_ table counting live before ≡ Some TooManySymbols
     uses_refused many =
         rw (fits, acts.fits)
         (names_past (names_counted (with_counted (symbol_uses table line) counting)) (after_line map_ table line) many)
 
-    -- the line defines one name too many
+    -- if the line defines one name or local symbol too many, its fault is `TooManySymbols`
     pub defined_refused : has_too_many (after_line map_ table line) ≡ true → line_fault map_ table counting live before ≡ Some TooManySymbols
     defined_refused many =
         rw (fits, acts.fits)
         (table_past (names_counted (with_counted (symbol_uses table line) counting)) (after_line map_ table line) many)
 
     module _ (few : length (names_counted (with_counted (symbol_uses table line) counting)) ≤ most_names) where
-      -- the line enters one section too many
+      -- if the line selects one section too many, its fault is `TooManySections`
       pub sections_refused : has_too_many (stands table line) ≡ false → length (stands table line).sections ≤ most_sections
           → most_sections < length (after_line map_ table line).sections → line_fault map_ table counting live before ≡ Some TooManySections
       sections_refused room sections many =
@@ -236,7 +236,7 @@ module _ (map_ : Map) (table : Table) (live : Live) (before after : Stage) (done
           rw (fits, acts.fits)
           (sections_past (names_counted (with_counted (symbol_uses table line) counting)) (after_line map_ table line) few (same ∙ room) many)
 
-      -- the line passes no limit
+      -- if none of these limits is exceeded, the line has no fault
       pub line_fits : has_too_many (after_line map_ table line) ≡ false → length (after_line map_ table line).sections ≤ most_sections
           → line_fault map_ table counting live before ≡ None
       line_fits room sections =

@@ -25,7 +25,7 @@ use Rattle.m11_asm_passes.specs.States.{PassState}
 use Rattle.m11_asm_passes.specs.Turns.{LeavesAfter}
 use Rattle.m11_asm_passes.specs.declared.begun.LabelledLine.{LabelledLine}
 
--- a statement has the labels' end, the body and the label flags of the live line
+-- a statement has the end of the labels, the body and the label flags of the live line
 pub record States (live : Live) (statement : Statement) : Type 0 where
   pub labels_end_is : statement.labels_end ≡ labels_end live.line.text
   pub body_is : statement.body ≡ body_of live.line.text

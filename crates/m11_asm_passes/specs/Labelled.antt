@@ -16,14 +16,14 @@ use Rattle.m11_asm_lines.specs.declared.counting.Counting.{Counting}
 use Rattle.m11_asm_lines.specs.declared.labels.LabelFlags.{LabelFlags}
 use Rattle.m11_asm_passes.specs.Refusals.{labels_fault, uses_of_labels}
 
--- the labels of a line exceed no limit; the new table has them, and these are their flags
+-- the labels of a line exceed no limit; the new table is the one after them, and these are their flags
 pub record LabelsLie (map : Map) (counting : Counting) (line : Bytes) (old new : Table) (flags : LabelFlags) : Type 0 where
   pub fits : labels_fault counting old line ≡ None
   pub table : new ≡ labels_stand old line
   pub are : AreFlags flags (labels_flags line old (labels_at line)) (moved_flags map line old (labels_at line))
 
--- where memory is refused at a label, the names counted up to that label are within their limit; or all counted names are, and the names
--- and local symbols defined up to that label are within theirs
+-- if memory is refused at a label, the names counted up to and including that label are within their limit; or the names of all labels of
+-- the line are counted within that limit, and the names and local symbols defined up to and including that label are within theirs
 abbrev pub FitUpToOne : Counting → Table → Bytes → Type 0
 FitUpToOne old table line =
     FitsUpToLabel (labels_at line)

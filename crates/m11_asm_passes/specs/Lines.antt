@@ -49,10 +49,10 @@ with_line line stage = record stage { left = Line line ∷ [] }
 abbrev pub acted : Table → Live → Stage → Stage
 acted table live stage = (act (given_by table live stage).known stage live.line.text).after
 
--- the live lines of a source, under a map and with a count of names, up to a stage of the unfolding
+-- these are the live lines of a source up to a stage of its unfolding, under a map and with the names counted before the first line
 pub data PassLines (map : Map) (counting : Counting) : List SourceLine → List NumberedLine → Stage → Type 0 where
   Begins : PassLines map counting [] [] (start [])
-  -- the next line of the source is read if nothing is left and `.END` hasn't become live
+  -- the next line of the source is read if nothing is left to unfold and `.END` hasn't become live
   Reading : (source : List SourceLine) (lines : List NumberedLine) (stage : Stage) (line : SourceLine)
       → PassLines map counting source lines stage → stage.left ≡ [] → stage.has_ended ≡ false
       → PassLines map counting (source ++ line ∷ []) lines (with_line line stage)

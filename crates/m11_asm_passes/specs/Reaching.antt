@@ -25,8 +25,8 @@ pub data Exceeds (map : Map) (counting : Counting) (source : List SourceLine) (l
       → move stage ≡ Gives live after → line_fault map (table_at map lines) (counting_at map counting lines) live after ≡ Some fault
       → Exceeds map counting source lines fault
 
--- a fault of a pass: lack of memory, or an exceeded limit; a pass itself neither reads nor writes, and doesn't count the lines of its
--- source
+-- a pass can fail with this fault: memory was refused, or the source exceeds a limit after these live lines; a pass itself neither reads
+-- nor writes, and doesn't count the lines of its source
 abbrev pub Refused : Map → Counting → List SourceLine → List NumberedLine → AsmFault → Type 0
 Refused map counting source lines NoMemory = Unit {0}
 Refused map counting source lines Read = ⊥

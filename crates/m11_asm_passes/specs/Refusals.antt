@@ -1,6 +1,6 @@
--- The first limit that a live line exceeds, in this order: those of its labels, those of unfolding its operator, and those of what the
--- operator uses and changes. (MACRO-11 Language Reference Manual, "Symbols", "Local symbols", "Program section directives" and "Macro
--- calls". The limits and their order are this project's own.)
+-- The first limit that a live line exceeds. The limits come in this order: those of its labels, those of unfolding its operator, and those
+-- of what the operator uses and changes. (MACRO-11 Language Reference Manual, "Symbols", "Local symbols", "Program section directives" and
+-- "Macro calls". The limits and their order are this project's own.)
 use Rattle.std.specs.Prelude.{◌||◌, nat_lt, if◌then◌else◌, List, length, Option, Some, None, option_map}
 use Rattle.std.specs.List.{flat_map}
 use Rattle.std.specs.Option.{option_or}
@@ -41,7 +41,7 @@ labels_fault counting table line =
 
 -- ---- a line
 
--- a live line, with what is known from the table before it and from its own labels
+-- a live line, with the symbols known from the table before it and from its own labels
 abbrev pub given_by : Table → Live → Stage → UnfoldedLine
 given_by table live stage = given (known_after_labels (labels_stand table live.line.text)) live stage
 
@@ -49,7 +49,7 @@ abbrev pub placing_fault : Map → Table → Counting → UnfoldedLine → Optio
 placing_fault map table counting given =
     of_limit (limit_fault (names_counted (with_counted (symbol_uses table given) counting)) (after_line map table given))
 
--- the first limit, if any, exceeded by a line that becomes live with this table and these counted names before it
+-- the fault of the first limit, if any, exceeded by a line that becomes live with this table and these counted names before it
 abbrev pub line_fault : Map → Table → Counting → Live → Stage → Option AsmFault
 line_fault map table counting live stage =
     option_or (labels_fault counting table live.line.text)

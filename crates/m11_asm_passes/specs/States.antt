@@ -41,7 +41,7 @@ abbrev pub GoesOnUntil : Option AsmFault → Option UnfoldFault → Type 0
 GoesOnUntil None fault = fault ≡ None
 GoesOnUntil (Some stopped) fault = Unit {0}
 
--- the state of a pass after the live lines of a source, under a map and with the names counted before the first line
+-- this is the state of a pass after the live lines of a source, under a map and with the names counted before the first line
 pub record PassAfter (map : Map) (before : Counting) (source : List SourceLine) (lines : List NumberedLine) (pass_state : PassState) : Type 0 where
   pub lines_are : PassLines map before source lines pass_state.unfolder.stage
   pub table : pass_state.table ≡ table_at map lines

@@ -23,10 +23,10 @@ use m11_scan_statements::{Span, Statement};
 use m11_unfold::{Act, Unfolder};
 use m11_unfold_rules::{UnfoldFault, operator_in};
 
-// A line whose labels are defined and whose operator has been handled by unfolding, with the results of both.
+// The results for a line whose labels are defined and whose operator has been handled by unfolding.
 #[derive(Drop)]
 pub struct LabelledLine {
-    // The flags of its labels.
+    // The flags M and P of its labels.
     pub(crate) found: LabelFlags,
     pub(crate) act: Act,
 }
@@ -74,7 +74,8 @@ impl State {
     }
 }
 
-// Lets unfolding handle the operator, if any, of a line whose labels are defined. Errors: the exceeded limit of unfolding; `NoMemory`.
+// Lets unfolding handle the operator, if any, of a line whose labels are defined. Errors: the limit of unfolding that is exceeded;
+// `NoMemory`.
 fn act_on(
     unfolder: &mut Unfolder,
     line: &Line,

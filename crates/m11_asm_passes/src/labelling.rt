@@ -14,9 +14,9 @@ use m11_asm_rules::Map;
 use m11_scan::Line;
 use m11_scan_statements::{Label, labels_of};
 
-// Defines the labels of a line, which end at a column (0 if it has none), counts their names, and returns their flags M and P.
-// `only_label` is None, or the only label of the line. Errors: `TooManySymbols` if the labels exceed a limit on names or local symbols;
-// `NoMemory` at a label up to which they exceed none.
+// Defines the labels of a line, counts their names, and returns their flags M and P. `labels_end` is the column after the labels, 0 if
+// there are none; `only_label` is None, or the only label of the line. Errors: `TooManySymbols` if the labels exceed a limit on names or
+// local symbols; `NoMemory` if memory is refused at a label, and then no limit is exceeded up to and including that label.
 pub(crate) fn define_labels(
     pass: &mut Pass,
     counting: &mut Counting,

@@ -1,4 +1,4 @@
-//! A law: the calls of a pass place the lines of a source. It is the contract of a function that does nothing.
+//! The law that the calls of a pass place the lines of a source. It is the contract of a function that does nothing.
 
 ghost use Rattle.std.specs.Prelude.{◌≡◌, ◌++◌, ◌∷◌, List, [], Result, false};
 ghost use Rattle.m11_asm_faults.specs.declared.fault.AsmFault.{AsmFault};
@@ -14,9 +14,9 @@ ghost use Rattle.m11_asm_passes.specs.declared.placed.LiveLine.{LiveLine};
 ghost use Rattle.m11_asm_passes.specs.declared.placed.PlacedLine.{PlacedLine};
 ghost use Rattle.m11_asm_passes.specs.declared.turns.Turn.{Turn};
 
-/// Feeding a line to a pass that has placed the live lines of a source, and that needs a line, makes that source one line longer. `next`
-/// and `define` place the next live line of the source, as the contract of the call says; or they place nothing, since a line is needed or
-/// `.END` is live. If they fail, memory was refused, or the fault is that of the first limit that the source exceeds.
+/// If a pass has placed the live lines of a source and needs a line, feeding a line makes that source one line longer. `next` and `define`
+/// place the next live line of the source, as the contract of the call says; or they place nothing, since a line is needed or `.END` is
+/// live. If they fail, memory was refused, or the fault is that of the first limit that the source exceeds.
 #[tactic(auto, using(crate::proofs::Standing::feeds, crate::proofs::Standing::next_turns, crate::proofs::Standing::define_turns))]
 pub fn the_calls_place_the_lines_of_a_source()
     ensures feeds { (map : Map) (before : Counting) (source : List SourceLine) (lines : List NumberedLine) (line : SourceLine) (pass_state : PassState)

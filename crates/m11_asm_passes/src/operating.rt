@@ -24,7 +24,7 @@ use m11_base::Name;
 use m11_scan::Line;
 use m11_scan_expressions::Remarks;
 
-// Sets the contents and flags that a line emits, in place of those of the line before it. Error: memory may be refused.
+// Sets `emission` to the contents and flags that a line emits, in place of those of the line before it. Error: memory may be refused.
 pub(crate) fn emit_line(
     emission: &mut Emission,
     map: &Map<'_>,
@@ -41,7 +41,7 @@ pub(crate) fn emit_line(
     Ok(())
 }
 
-// Adds the symbols that unfolding evaluated. Errors: `TooManySymbols`; `NoMemory`.
+// `used_symbols` gets the symbols that unfolding evaluated. Errors: `TooManySymbols`; `NoMemory`.
 fn use_read(used_symbols: &mut UsedSymbols, remarks: &Remarks) -> Result<(), AsmFault>
     ensures { Adds (map (symbol_use LocalOnly) remarks.now.symbols) used_symbols.old used_symbols.new result }
 {
@@ -52,8 +52,8 @@ fn use_read(used_symbols: &mut UsedSymbols, remarks: &Remarks) -> Result<(), Asm
     }
 }
 
-// Adds the symbols that unfolding evaluated and those that the action of a line uses; the fields of an instruction have already been read.
-// Errors: `TooManySymbols`; `NoMemory`.
+// `used_symbols` gets the symbols that unfolding evaluated, and those that the action of a line uses. The fields of an instruction have
+// already been read. Errors: `TooManySymbols`; `NoMemory`.
 // speed: inline, since most lines use nothing, or only what the fields of an instruction use.
 #[inline(always)]
 fn use_line(
@@ -70,7 +70,7 @@ fn use_line(
     Ok(())
 }
 
-// Adds the symbols that a line uses after its labels, if used names are counted. Errors: `TooManySymbols`; `NoMemory`.
+// If used names are counted, `counting` gets the symbols that a line uses after its labels. Errors: `TooManySymbols`; `NoMemory`.
 #[inline(always)]
 pub(crate) fn count_line(
     counting: &mut Counting,
@@ -87,8 +87,8 @@ pub(crate) fn count_line(
     }
 }
 
-// Applies the action of a line, and returns the item that a listing shows of an assignment, if it makes one whose value is known.
-// Errors: `TooManySymbols` or `TooManySections`; `NoMemory`.
+// Applies the action of a line, and returns the item that a listing shows of an assignment, if the action is one and the assigned value is
+// known. Errors: `TooManySymbols` or `TooManySections`; `NoMemory`.
 #[inline(always)]
 pub(crate) fn change_line(
     pass: &mut Pass,

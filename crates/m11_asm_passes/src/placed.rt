@@ -48,7 +48,7 @@ pub struct PlacedLine {
     pub counter: u16,
     /// The value that the line assigns, as a listing shows it; None if the line assigns none, or the value isn't known.
     pub assigned: Option<Item>,
-    /// Whether the listing modes after the line show it, if it isn't flagged.
+    /// Whether the listing modes after the line let it be listed even if it isn't flagged.
     pub is_shown: bool,
 }
 

@@ -45,8 +45,8 @@ impl Model for SourcePass {
 }
 
 impl SourcePass {
-    /// A pass before the first line. `counting` has the names counted so far as used by lines, or says that only defined names count.
-    /// Error: memory may be refused.
+    /// A pass before the first line. `counting` has the used names counted so far, to which the pass adds those that its lines use; or it
+    /// says that only defined names are counted. Error: memory may be refused.
     pub fn new(alloc: Global, seed: Seed, counting: Counting) -> Result<SourcePass, AllocError>
         ensures stands { IfOk result (λ pass. (map : Meanings) → PassAfter map counting [] [] pass.pass_state) }
         ensures begins { IfOk result (λ pass. pass.pass_state.unfolder.stage ≡ start []) }
@@ -75,10 +75,11 @@ impl SourcePass {
     }
 
     /// Goes on to the next live line, if there is one, with the final values of the names of the whole source in `map`. A line that becomes
-    /// live is placed in `placed`.
+    /// live is placed, and stored in `placed`.
     ///
-    /// Errors: `Unfold` at a limit of unfolding, `TooManySymbols` and `TooManySections`, whichever comes first in the order of the
-    /// lines, and within a line in the order of labels, operator and arguments; and `NoMemory`.
+    /// Errors: `TooManySymbols`, `TooManySections`, or `Unfold` at a limit of unfolding, whichever limit is exceeded first. Within a line,
+    /// the limits on its labels come first, then those on the unfolding of its operator, then those on what the operator uses and changes.
+    /// `NoMemory` if memory is refused.
     pub fn next(&mut self, map: &Map<'_>, placed: &mut PlacedLine) -> Result<Turn, AsmFault>
         ensures turns { self.old.fault ≡ None → Turns map.now self.old.pass_state self.new.pass_state (live_in placed.new.live)
             (SaysPlaced map.now placed.new self.new.pass_state.emission) result }
@@ -122,7 +123,7 @@ impl SourcePass {
         self.state.pass.table()
     }
 
-    /// The table of the pass, and the names counted as used by lines; no names if only defined names count.
+    /// Returns the table of the pass, and the used names that were counted; no names if only defined names are counted.
     pub fn end(self) -> (Pass, UsedSymbols)
         ensures pass { result.0 ≡ self.pass_state.table }
         ensures used_symbols { result.1 ≡ used_names_in self.pass_state.counting }

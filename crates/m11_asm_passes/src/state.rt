@@ -39,7 +39,7 @@ use std::alloc::{AllocError, Global};
 pub struct State {
     pub(crate) unfolder: Unfolder,
     pub(crate) pass: Pass,
-    // The names counted so far as used by lines, unless only defined names count.
+    // The names that lines have used so far, unless only defined names are counted.
     pub(crate) counting: Counting,
     // What the last line emitted.
     pub(crate) emission: Emission,
@@ -161,8 +161,8 @@ impl State {
         Ok(())
     }
 
-    // Adds the symbols of a line whose labels are defined, if used symbols are counted; applies its action; and returns the item that a
-    // listing shows of an assignment, if any. Error: as for `place`.
+    // Counts the symbols that a line uses after its labels, if used names are counted; applies the action of the line; and returns the item
+    // that a listing shows of its assignment, if it has one. Error: as for `place`.
     // speed: inline in both callers, since a call, with the moves of its result, took a sixth of the function's instructions.
     #[inline(always)]
     fn apply(

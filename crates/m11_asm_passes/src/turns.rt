@@ -1,6 +1,6 @@
 //! The results of a call of a pass.
 
-/// What a call of a pass went on to, if it didn't fail.
+/// The point at which a call of a pass stopped, if it didn't fail.
 #[derive(Clone, Copy, PartialEq, Eq, Debug)]
 pub enum Turn {
     /// Nothing is left to unfold: feed the next line of the source, unless the source has ended.

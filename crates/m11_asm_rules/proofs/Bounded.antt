@@ -19,7 +19,7 @@ use Rattle.m11_asm_rules.proofs.Settling.{Moves, change_modest, changed_moves, l
 abbrev pub LabelsAreInOrder : Type 0
 LabelsAreInOrder = (line : Bytes) → LabelsLie (length line) 0 (labels_at line)
 
--- a label has at least a character and a colon
+-- a text has no more labels than characters after the column where they begin, since each has at least a character and a colon
 few_labels : (size column : ℕ) (labels : List Label) → LabelsLie size column labels → column + length labels ≤ size
 few_labels size column [] lie = let all : column ≤ size = lie in omega (arith, all)
 few_labels size column (label ∷ labels) lie =
@@ -29,7 +29,8 @@ few_labels size column (label ∷ labels) lie =
     let rest = few_labels size label.end labels lie.3 in
     omega (arith, begins, some, ends, rest)
 
--- the counts after a line: at most one more block for each label and one for a selected section, and one more level
+-- the counts after a line: at most this many more blocks (one for each label, and one for a selected section), and at most one more `.LIST`
+-- and one more `.NLIST`
 record GoesOn (most : ℕ) (old new : Modes) : Type 0 where
   block : new.block ≤ old.block + most
   listed : new.listed ≤ old.listed + 1

@@ -10,7 +10,7 @@ use Rattle.m11_asm_rules.specs.Meanings.{Map, empty_map}
 use Rattle.m11_asm_rules.specs.Placements.{program_map, table_after}
 use Rattle.m11_asm_rules.specs.Tables.{Table}
 
--- the firm part of a firm part is the same
+-- a firm part is its own firm part
 firm_twice : (is_firm : Bool) (standing : Standing)
     → firm_standing is_firm (firm_standing is_firm standing) ≡ firm_standing is_firm standing
 firm_twice true standing = refl

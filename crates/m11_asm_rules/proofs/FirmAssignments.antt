@@ -42,7 +42,7 @@ are_firm table (symbol ∷ symbols) all = (
   are_firm table symbols (second_of (is_firm table symbol) (all_firm table symbols) all),
 )
 
--- the firm part of an assignment
+-- the firm part of the definition by an assignment, from whether it is firm and from its value
 abbrev kept : Bool → Quantity → Definition
 kept firm value = record {
   standing = firm_standing firm (standing_of value);
@@ -54,7 +54,7 @@ kept_alike : (firm : Bool) (one other : Quantity) → (firm ≡ true → one ≡
 kept_alike true one other same = ap (λ (q : Quantity). kept true q) (same refl)
 kept_alike false one other same = refl
 
--- the same, from the firm table alone
+-- the same definition, from firm names alone
 abbrev from_firm : Table → Expression → Definition
 from_firm table tokens =
     kept (all_firm table (symbols tokens)) (value (firm_known table (location table)) tokens)

@@ -24,7 +24,7 @@ number_firm name number table =
     rw (labelled_firm (Named name) table.definitions)
     (number_by (is_labelled (Named name) table.definitions) name number table)
 
--- an assignment, by its definition and by whether its name is that of a label
+-- the table after an assignment, from its definition and from whether its name is a label's
 abbrev written : Bool → Bool → Name → Definition → Table → Table
 written is_label is_global name definition table =
     global_if (is_global && not is_label) name
@@ -38,7 +38,7 @@ written_firm true false name definition table = refl
 written_firm false true name definition table = ap (λ (t : Table). with_global name t) (definition_firm (Named name) definition table)
 written_firm false false name definition table = definition_firm (Named name) definition table
 
--- the same, from the firm table alone
+-- the firm part of the table after an assignment follows from the firm parts of the table and of the definition
 value_by_firm : (map : Map) (name : Name) (is_global : Bool) (tokens : Expression) (table : Table)
     → firm_table (with_value name is_global (assigned map table tokens) table)
     ≡ written (is_labelled (Named name) (firm_table table).definitions) is_global name

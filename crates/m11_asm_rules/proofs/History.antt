@@ -35,7 +35,7 @@ last_joined : (key : Key) (before : Option Definition) (first second : List KeyD
 last_joined key before [] second = refl
 last_joined key before (one ∷ first) second = last_joined key (if is_same one.key key then Some one.definition else before) first second
 
--- the new table has the definitions of the old one, and these
+-- each key's last definition in the new table is the last in this list, or else the one in the old table
 abbrev pub Defines : List KeyDefinition → Table → Table → Type 0
 Defines definitions old new =
     (key : Key) → last_definition key new.definitions ≡ last_of key (last_definition key old.definitions) definitions
@@ -51,7 +51,7 @@ one_defined : (key : Key) (definition : Definition) (table : Table)
 one_defined key definition table asked = last_more asked table.definitions key definition
 
 module _ (key : Key) (table : Table) where
-  -- a label with a defined key makes it doubly defined, and defines nothing
+  -- a label whose key is already defined makes the key doubly defined, and defines nothing; any other label defines its key
   label_by : (is_there is_global : Bool) (name : Name)
       → Defines (if is_there then [] else record { key = key; definition = labelled table } ∷ []) table
       (if is_there then with_doubly_defined key table
@@ -150,7 +150,7 @@ set_elsewhere (number ∷ numbers) zero (suc other) new h = refl
 set_elsewhere (number ∷ numbers) (suc section) zero new h = refl
 set_elsewhere (number ∷ numbers) (suc section) (suc other) new h = set_elsewhere numbers section other new (λ e. h (ap suc e))
 
--- one more 0 at the end changes no number
+-- one more 0 at the end of a list changes no number, since a missing number counts as 0
 zero_more : (numbers : List ℕ) (section : ℕ) → get_or (numbers ++ 0 ∷ []) section 0 ≡ get_or numbers section 0
 zero_more [] zero = refl
 zero_more [] (suc section) = refl
@@ -167,7 +167,7 @@ as_many (Some number) new sections numbers same = same
 as_many None new sections numbers same =
     length-append numbers (0 ∷ []) ∙ ap (λ (n : ℕ). n + 1) same ∙ sym (length-append sections (new ∷ []))
 
--- each section of a table has a counter and a size, which are those after the moves; the section of the next line is one of them
+-- each section of a table has a counter and a size, which are those after the moves; and the current section is one of the sections
 pub record Agrees (moves : List SectionMove) (table : Standing) : Type 0 where
   pub counters : (section : ℕ) → get_or table.counters section 0 ≡ location_in section moves
   pub sizes : (section : ℕ) → get_or table.sizes section 0 ≡ size_in section moves
@@ -233,7 +233,7 @@ module _ (moves : List SectionMove) (table : Table) (agrees : Agrees moves (stan
     as_many_sizes = length-set table.sizes here (max (size_of here table) new) ∙ agrees.as_many_sizes;
   }
 
--- if neither the sections nor the section of the next line change, they agree as before
+-- if neither the sections with their counters and sizes nor the current section change, the table still agrees with the moves
 no_moves : (moves : List SectionMove) (old new : Standing) → new ≡ old → Agrees moves old → Agrees (moves ++ []) new
 no_moves moves old new same agrees =
     let P : List SectionMove → Type 0 = λ l. Agrees l new in
@@ -306,7 +306,7 @@ lines_agree map moves table (given ∷ lines) agrees =
     subst P (append_assoc moves (line_moves table given) (moves_from map (after_line map table given) lines))
     (lines_agree map (moves ++ line_moves table given) (after_line map table given) lines (line_agrees map moves table given agrees))
 
--- before the first line all counters are 0
+-- the counters before the first line, and the sizes: 0 for both sections
 abbrev zeros : List ℕ
 zeros = 0 ∷ 0 ∷ []
 

@@ -134,7 +134,7 @@ new_symbol_counts block number definition table new =
     let one = ap one_if_new new in
     omega (arith, more, one)
 
--- no definition is lost by one more
+-- one more definition makes the list of definitions no shorter
 none_lost : (key : Name) (value : Definition) (entries : List (Name × Definition))
     → length entries ≤ length (insert_entry is_same_name entries key value)
 none_lost key value entries =
@@ -150,7 +150,7 @@ pub no_symbols_fewer : (key : Key) (definition : Definition) (table : Table)
 no_symbols_fewer (Named name) definition table = omega arith
 no_symbols_fewer (Numbered block number) definition table = none_lost (block, number) definition table.definitions.local_symbols
 
--- an inserted entry fits, if its key is there or there is room for it
+-- an inserted entry fits, if its key was already there or there was room for one more
 fits_by : (b : Bool) (before after most : ℕ) → after ≡ before + one_if_new b → (b ≡ false → before < most) → before ≤ most → after ≤ most
 fits_by true before after most more room few = omega (arith, more, few)
 fits_by false before after most more room few = let fewer = room refl in omega (arith, more, fewer)

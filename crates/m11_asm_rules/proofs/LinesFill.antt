@@ -61,7 +61,7 @@ storage_fills map firm table passed here (AlignTo is_even) = inl refl
 abbrev size_in : KnownSymbols → Bytes → ℕ → Op → ℕ
 size_in firm line start operation = instruction_size (forms_of (fields_at firm line start operation))
 
--- the fields are the same from the firm table alone
+-- an instruction has the same size under the firm part of a table as under the table
 size_firm : (table : Table) (here : ℕ) (line : Bytes) (start : ℕ) (operation : Op)
     → instructions.size (firm_table table) here line start operation ≡ instructions.size table here line start operation
 size_firm table here line start operation =

@@ -30,7 +30,7 @@ use Rattle.m11_asm_rules.specs.Tables.{Table, firm_table, first_table, location,
 abbrev sizes : List PieceContent → List ℕ
 sizes contents = map content_size contents
 
--- a list of 2, as long as another list
+-- a list with the number 2 for each item of another list
 abbrev twos : {A : Type 0} → List A → List ℕ
 twos list = map (λ one. 2) list
 

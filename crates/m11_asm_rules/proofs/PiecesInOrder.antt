@@ -1,4 +1,4 @@
--- In a section where no location is set, and which doesn't pass the end of the addresses, pieces lie in the order of lines.
+-- If no location is set in a section, and its counter doesn't pass the greatest address, its pieces lie in the order of the lines.
 use Rattle.std.proofs.Common.{◌≡◌, ◌∙◌, ℕ, ◌+◌, ◌%◌, ◌<◌, ◌≤◌, Bool, true, false, List, [], ◌∷◌, ◌++◌, refl, sym, ap, subst, arith, inl, inr, true≢false}
 use Rattle.std.proofs.lemmas.Bool.Decides.{nat_tests}
 use Rattle.std.proofs.lemmas.List.{append-nil, append_assoc}
@@ -81,7 +81,7 @@ moves_add section other (first ∷ moves) move =
 
 -- ---- the pieces of one line
 
--- pieces that lie one after another from a location on, and end no later than another location
+-- the pieces lie one after another, beginning no earlier than the first location and ending no later than the second
 abbrev LieWithin : ℕ → ℕ → List Piece → Type 0
 LieWithin location end [] = location ≤ end
 LieWithin location end (piece ∷ pieces) =
@@ -127,7 +127,7 @@ pieces_lie section location (content ∷ contents) fits =
     = pieces_lie section (location + content_size content) contents (omega (arith, all)) in
     (omega arith, subst Q (sym next) (subst P sum rest))
 
--- the location at which a line emits, if the counter is within 16 bits
+-- if the counter is below 65536, a line emits its contents right after the gap, modulo 65536
 start_is : (table : Table) (does : Action) → location table < 65536
     → put_location table does ≡ (location table + gap_before table does) % 65536
 start_is table (Store storage) below = refl
@@ -142,17 +142,17 @@ sizes section moves = sizes_since (moves_in section moves)
 abbrev IsUnset : ℕ → List SectionMove → Type 0
 IsUnset section moves = has_set (moves_in section moves) ≡ false
 
--- pieces lie one after another from the location before the moves of a line on
+-- no earlier line sets the location of the section, and the pieces lie one after another between the sizes of the earlier lines and `end`
 record Lies (section end : ℕ) (before : List SectionMove) (found : List Piece) : Type 0 where
   unset : IsUnset section before
   within : LieWithin (sizes section before) end found
 
--- the location of a section that was never set
+-- if no line sets the location of a section, and the sizes of its lines are at most 65535 in all, the location is the sum of the sizes
 location_is : (section : ℕ) (moves : List SectionMove) → IsUnset section moves → sizes section moves ≤ 65535
     → location_in section moves ≡ sizes section moves
 location_is section moves unset fits = rw (none_set (moves_in section moves) unset) (omega (arith, fits))
 
--- the moves of a section by a change
+-- the moves that a change adds to a section, if it is the current one (true) or not (false)
 abbrev added : Bool → Change → List Move
 added is_here (Counts move) = move_if is_here move
 added is_here other = []
@@ -171,7 +171,7 @@ grown section other moves (Numbers name number) = stays section moves
 grown section other moves (Exports names) = stays section moves
 grown section other moves (Sets modes) = stays section moves
 
--- a line that emits nothing in a section
+-- if a line emits nothing into a section, no piece lies out of place
 empty_lies : (section : ℕ) (before after : List SectionMove) (more : List Move)
     → moves_in section after ≡ moves_in section before ++ more → IsUnset section after
     → Lies section (sizes section after) before []
@@ -184,7 +184,7 @@ empty_lies section before after more grows unset =
       within = subst Q (sym grows) (sizes_front (moves_in section before) more whole);
     }
 
--- a line that emits something, after some skipped bytes
+-- if a line emits contents after a gap, the pieces lie between the location before the line and the location after it
 filled_lies : (section gap start : ℕ) (name : Name) (contents : List PieceContent) (before after : List SectionMove)
     → moves_in section after ≡ moves_in section before ++ Steps (gap + contents_size contents) ∷ []
     → IsUnset section after → sizes section after ≤ 65535 → start ≡ (location_in section before + gap) % 65536
@@ -217,7 +217,7 @@ none_of : (is_here : Bool) → pieces_if is_here [] ≡ []
 none_of true = refl
 none_of false = refl
 
--- a line in a section or in another one
+-- the pieces of a line lie in place, whether the line is in this section or in another one
 line_by : (is_here : Bool) (section other gap start : ℕ) (name : Name) (contents : List PieceContent) (change : Change)
     (before after : List SectionMove) → (other == section) ≡ is_here
     → moves_in section after ≡ moves_in section before ++ added is_here change

@@ -23,7 +23,7 @@ prefix_alike name [] = refl
 prefix_alike name (entry ∷ entries) =
     rw (names_swap name entry.0) (ap (λ (n : ℕ). cond (not (is_same_name entry.0 name)) (1 + n) 0) (prefix_alike name entries))
 
--- the number of a section is the index of its name
+-- the number of a section is the index of its name among the names of the entries
 pub section_found : (name : Name) (entries : List (Name × ℕ))
     → position (is_same_name name) (keys_of entries) ≡ number_of name (map section_in entries)
 section_found name entries =

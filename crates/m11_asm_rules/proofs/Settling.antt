@@ -97,7 +97,7 @@ pub record Moves (old new : Table) : Type 0 where
   pub unlisted : new.modes.unlisted ≤ old.modes.unlisted + 1
   pub section : old.modes.section < length old.sections → new.modes.section < length new.sections
 
--- modes that a change may set
+-- modes that a change may set: the section is the same, and each count is at most 1 higher
 pub record IsNear (old new : Modes) : Type 0 where
   pub block : new.block ≤ old.block + 1
   pub listed : new.listed ≤ old.listed + 1
@@ -140,7 +140,7 @@ change_modest table line other = tt
 
 -- ---- the table after a change
 
--- the number of a section that is found is below the number of sections
+-- if a section is found by its name, its number is below the number of sections
 pub found_within : (name : Name) (all : List Section) (number : ℕ) → number_of name all ≡ Some number → number < length all
 found_within name all number found =
     (position-Some (λ (known : Section). is_same_name known.name name) all number (section name 0) found).0

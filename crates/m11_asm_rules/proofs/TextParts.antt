@@ -16,12 +16,12 @@ use Rattle.m11_scan_statements.specs.declared.parts.Part.{Part}
 use Rattle.m11_asm_rules.specs.Elements.{ListAt, item_before}
 use Rattle.m11_asm_rules.specs.Strings.{parts_at, parts_by, parts_within}
 
--- a part ends after a column
+-- if there is a part, it ends after this column
 abbrev EndsPast : ℕ → Option Part → Type 0
 EndsPast column None = Unit {0}
 EndsPast column (Some part) = column < part.end
 
--- the column after some of the tokens of a line is within the line
+-- the column after the first few tokens of a line is within the line, and not before the column where they begin
 after_within : (size column count : ℕ) (tokens : List Lexeme) → AreOrdered size column tokens
     → (column ≤ column_after column (take count tokens)) × (column_after column (take count tokens) ≤ size)
 after_within size column zero [] o = (omega arith, o)
@@ -53,7 +53,7 @@ mark_ends : (column start end after : ℕ) (closes : Bool) → column < end → 
 mark_ends column start end after true lt next = next
 mark_ends column start end after false lt next = lt
 
--- an expression with these tokens after it
+-- the part that is an expression, if these tokens follow it
 abbrev closed_by : ℕ → ℕ → List Lexeme → Part
 closed_by start end tokens = elim tokens [
   | [] ↦ expression start end false end
@@ -77,7 +77,7 @@ expression_ends line column start lt le =
     closed_ends column start (expression_end line start) (length line) (tokens_from line (expression_end line start))
     (tokens_from-ordered line (expression_end line start) after.1) (omega arith)
 
--- the part that begins at a column with these characters from there on
+-- the part that begins at a column, if these characters are the rest of the line
 abbrev part_in : Bytes → ℕ → Bool → Bytes → Option Part
 part_in line start is_first text = elim text [
   | [] ↦ None
@@ -105,7 +105,7 @@ next_ends : (line : List ℕ) (column : ℕ) (is_first : Bool) → EndsPast colu
 next_ends line column is_first =
     part_ends line column (next_printed line column) is_first (drop (next_printed line column) line) refl (omega arith)
 
--- no part begins past the end of the line
+-- no part begins at or past the end of the line
 none_past : (line : List ℕ) (column : ℕ) (is_first : Bool) → length line ≤ column → next_part line column is_first ≡ None
 none_past line column is_first past =
     ap (λ text. part_in line (next_printed line column) is_first text) (drop_all (next_printed line column) line (omega arith))

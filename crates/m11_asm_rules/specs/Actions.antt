@@ -19,7 +19,7 @@ pub data Storage : Type 0 where
   -- a word or a byte for each expression of a list; an empty expression counts as 0
   WordList : List Expression → Storage
   ByteList : List Expression → Storage
-  -- the bytes of a text; if the flag is true, a zero byte after them
+  -- the bytes of a text, and a zero byte after them if the flag is true
   Text : List TextPart → Bool → Storage
   -- a text in RADIX-50
   PackedText : List TextPart → Storage
@@ -27,7 +27,7 @@ pub data Storage : Type 0 where
   LimitWords : Storage
   -- room: the number of bytes in a unit, and how many units there are; an empty expression counts as 1
   Room : ℕ → Expression → Storage
-  -- room up to the next even location (true) or the next odd one (false)
+  -- room for 0 or 1 byte, up to the first even (true) or odd (false) location at or after the location counter
   AlignTo : Bool → Storage
 
 pub data Action : Type 0 where
@@ -41,7 +41,7 @@ pub data Action : Type 0 where
   Select : Name → ℕ → List Attribute → Action
   -- makes names global, and weak if the flag is true
   Export : Bool → List Name → Action
-  -- assigns a name a number that depends on no other name
+  -- assigns to a name a number that depends on no other name, as `.NARG` and `.NCHR` do
   SetNumber : Name → ℕ → Action
   -- sets the radix of numbers
   SetRadix : Radix → Action
@@ -49,7 +49,7 @@ pub data Action : Type 0 where
   MoveLevel : Bool → Action
   -- turns the listing of expansions on (true) or off (false)
   ListExpansions : Bool → Action
-  -- set the title, the identification and the transfer address of the module; an empty expression sets no transfer address
+  -- these three set the title, the identification and the transfer address of the module; an empty expression sets no transfer address
   Entitle : Name → Action
   Identify : Option Name → Action
   Transfer : Expression → Action
@@ -58,7 +58,7 @@ pub data Action : Type 0 where
   -- an instruction, and the column after its name; the forms of its operands depend on which names are registers
   Operate : Op → ℕ → Action
 
--- what a line does, and the flags that follow from its text alone
+-- what a line does, and the flags that depend on no symbol: those of its text, and O for `.NARG` outside a macro
 pub record Operation : Type 0 where
   pub action : Action
   pub flags : ℕ

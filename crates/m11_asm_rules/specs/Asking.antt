@@ -31,7 +31,7 @@ firm_asked table location = record { table = table; location = location }
 abbrev pub counted : ℕ → Kind → Quantity
 counted location kind = record { number = location; kind = kind; flags = 0 }
 
--- the value of a definition, flagged D if its key is doubly defined; if there is no definition, the other value
+-- the value of a definition, flagged D if its key is doubly defined; `other` if there is no definition
 abbrev pub given_by : Bool → Quantity → Option Definition → Quantity
 given_by is_doubly_defined other (Some definition) = quantity_of (flag_if is_doubly_defined flag_D) definition.standing
 given_by is_doubly_defined other None = other

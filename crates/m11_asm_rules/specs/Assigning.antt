@@ -59,7 +59,7 @@ abbrev pub globl_flags : Map → Name → ℕ
 globl_flags map name =
     flag_if (is_exported name map && is_unknown (last_definition (Named name) map.definitions)) flag_U
 
--- the flags M and U of any definition of a name other than by a label
+-- the flags M and U of a line that defines this name by an assignment, `.NARG` or `.NCHR`
 abbrev pub definition_flags : Map → Table → Name → ℕ
 definition_flags map table name = bit_or (label_flags table name) (globl_flags map name)
 
@@ -70,7 +70,7 @@ abbrev pub assignment_flags : Map → Table → Option Name → Expression → �
 assignment_flags map table name tokens =
     bit_or (target_flags map table name) (value (known_at map LocalOnly table (location table)) tokens).flags
 
--- ---- .=e: its value depends on firm names alone
+-- ---- .=e: the value of e depends on firm names alone
 
 abbrev pub counter_value : Table → Expression → Quantity
 counter_value table tokens = value (firm_known table (location table)) tokens

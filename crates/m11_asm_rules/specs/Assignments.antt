@@ -19,7 +19,8 @@ standing_of value = if is_defined value then Known value.number value.kind else 
 abbrev pub all_firm : Table → List Symbol → Bool
 all_firm table symbols = list_all (is_firm table) symbols
 
--- the definition of a name by an expression: the value under the map, which is firm if all symbols of the expression are
+-- the definition of a name by an expression: the value of the expression under the map; the definition is firm if all symbols of the
+-- expression are
 abbrev pub assigned : Map → Table → Expression → Definition
 assigned map table tokens = record {
   standing = standing_of (value (known_at map LocalOnly table (location table)) tokens);
@@ -27,7 +28,7 @@ assigned map table tokens = record {
   label = None;
 }
 
--- the table after an assignment; an assignment to a label makes the label doubly defined
+-- the table after an assignment; an assignment to a label's name only makes the label doubly defined
 abbrev pub with_assigned : Key → Definition → Table → Table
 with_assigned key definition table =
     if is_labelled key table.definitions then with_doubly_defined key table else with_definition key definition table

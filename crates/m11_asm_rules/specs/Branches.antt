@@ -5,7 +5,8 @@ use Rattle.m11_scan_expressions.specs.Quantities.{Quantity}
 use Rattle.m11_asm_rules.specs.Relocations.{distance, is_here}
 use Rattle.m11_asm_rules.specs.Tables.{Table}
 
--- whether a distance in bytes, modulo 65536, from the location after a branch is in reach: even, from 128 words back to 127 words forward
+-- whether a distance in bytes, modulo 65536, from the location after a branch is in reach: even, and at most 128 words back or 127 words
+-- forward
 abbrev pub in_reach : ℕ → Bool
 in_reach bytes = bytes % 2 == 0 && (nat_le bytes 0o376 || nat_le 0o177400 bytes)
 

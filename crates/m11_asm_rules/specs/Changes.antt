@@ -22,7 +22,7 @@ pub data Change : Type 0 where
   Selects : Name → ℕ → Change
   -- assigns an expression to a name, and makes the name global if the flag is true
   Assigns : Name → Bool → Expression → Change
-  -- assigns a name a number that depends on no other name
+  -- assigns to a name a number that depends on no other name, as `.NARG` and `.NCHR` do
   Numbers : Name → ℕ → Change
   -- makes names global
   Exports : List Name → Change
@@ -48,16 +48,16 @@ with_move move table = with_location (moved move (location table)) table
 
 -- ---- sections
 
--- the sections, or their counters or sizes, with one more for a section that has no number yet
+-- the sections, their counters or their sizes, with one more item for a section that has no number yet
 abbrev pub with_new : {A : Type 0} → Option ℕ → A → List A → List A
 with_new (Some number) new items = items
 with_new None new items = items ++ new ∷ []
 
--- the modes when the section with this number is selected: a new block of local symbols begins
+-- the modes once the section with this number is selected and a new block of local symbols has begun
 abbrev pub in_number : ℕ → Modes → Modes
 in_number number modes = record modes { section = number; block = one_more modes.block }
 
--- a section is selected: the one with this name, or a new one, which is the last
+-- the table after a section is selected: the section with this name, or else a new one, which comes last
 abbrev pub with_section : Name → ℕ → Table → Table
 with_section name attributes table = record table {
   sections = with_new (number_of name table.sections) (section name attributes) table.sections;

@@ -93,7 +93,7 @@ abbrev pub register_in : LineContext → Field Expression → Register
 register_in line_context (content.Register register) = as_register line_context register
 register_in line_context field = R0
 
--- the instruction with this operation and these fields; a number is cut to the bits that the code has for it
+-- the instruction with this operation and these fields; a number is cut to the bits that the code word has for it
 abbrev pub instruction : LineContext → Op → Field Expression → Field Expression → Insn
 instruction line_context (op.Double operation size) first second =
     insn.Double operation size (operand_in line_context first) (operand_in line_context second)
@@ -117,8 +117,8 @@ instruction line_context (op.Codes operation codes) first second = insn.Conditio
 
 -- ---- flags
 
--- the flags of a number, with R for a register, A for any other value that isn't absolute, and T for a number too large for its bits of the
--- code
+-- the flags of the value of a number field, with R for a register, A for any other value that isn't absolute, and T for a number too large
+-- for its bits in the code word
 abbrev pub numbered_flags : Op → Quantity → ℕ
 numbered_flags operation value =
     bit_or (bit_or value.flags (absence value.kind))
@@ -141,7 +141,7 @@ field_flags line_context operation content.Missing = 0
 
 -- ---- the words
 
--- the words of the operands, one after another, the first of them at a location
+-- the words of the operands, one after another, the first at a location
 abbrev pub words_from : LineContext → ℕ → List (Form Expression) → Emission
 words_from line_context location [] = nothing 0
 words_from line_context location (form ∷ forms) =

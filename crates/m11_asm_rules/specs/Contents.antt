@@ -24,7 +24,7 @@ pub record Emission : Type 0 where
 abbrev pub emission : List PieceContent → ℕ → Emission
 emission contents flags = record { contents = contents; flags = flags }
 
--- nothing, with flags
+-- no contents, with these flags
 abbrev pub nothing : ℕ → Emission
 nothing flags = emission [] flags
 
@@ -63,16 +63,16 @@ pieces_from section location (content ∷ contents) =
 abbrev pub element_value : KnownSymbols → Expression → Quantity
 element_value known element = if is_empty element then absolute 0 0 else value known element
 
--- R for a register where none is allowed
+-- R for a register, in a place where no register is allowed; otherwise no flag
 abbrev pub register_flags : Kind → ℕ
 register_flags kind = flag_if (is_register kind) flag_R
 
--- T for a byte whose number has a high byte other than octal 000 and 377
+-- T for a number stored as a byte, if its high byte is neither octal 000 nor 377
 abbrev pub byte_flags : ℕ → ℕ
 byte_flags number = flag_if (not (number / 256 == 0 || number / 256 == 0o377)) flag_T
 
 -- a value as a word at a location, with R for a register; a relative operand (true) is the distance from the location after the word,
--- computed by the linker unless it is known here
+-- computed by the linker unless the assembly knows it
 abbrev pub word : Table → Bool → ℕ → Quantity → Emission
 word table is_relative location value =
     emission (Word (stored table is_relative location value) ∷ []) (bit_or value.flags (register_flags value.kind))

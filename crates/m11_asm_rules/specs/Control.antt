@@ -19,7 +19,7 @@ use Rattle.m11_asm_rules.specs.Actions.{ListExpansions, NoAction, Operation, Mov
 use Rattle.m11_scan_statements.specs.declared.spans.Span.{Span}
 use Rattle.m11_asm_rules.specs.Elements.{ListAt, argument_flags, names_at, names_flags, texts_of}
 
--- ---- .RADIX n: 2, 8 or 10, in decimal, with or without a period; 8 if there is no argument
+-- ---- .RADIX n: n is 2, 8 or 10, in decimal, with or without a period; without n, the radix becomes 8
 
 abbrev pub radix_of : ℕ → Option Radix
 radix_of number =
@@ -44,7 +44,7 @@ radix line start = elim (tokens_from line start) [
 abbrev pub is_among : List Bytes → Bytes → Bool
 is_among words word = list_any (λ other. bytes_eq other word) words
 
--- A if a word isn't among the known ones
+-- A if any of the words isn't a known one
 abbrev pub unknown_flags : List Bytes → List Bytes → ℕ
 unknown_flags known words = flag_if (list_any (λ word. not (is_among known word)) words) flag_A
 

@@ -43,7 +43,7 @@ last_definition (Numbered block number) definitions = lookup (is_same_symbol (bl
 abbrev pub is_defined : Key → Definitions → Bool
 is_defined key definitions = is_some (last_definition key definitions)
 
--- the definitions with this one as the last of its key
+-- the definitions after a further one, which is now the last definition of the key
 abbrev pub with_last : Key → Definition → Definitions → Definitions
 with_last (Named name) definition definitions =
     record definitions { names = insert_entry is_same_name definitions.names name definition }

@@ -20,7 +20,7 @@ use Rattle.m11_scan_statements.specs.declared.spans.Span.{Span}
 abbrev pub most_elements : Bytes → ℕ
 most_elements line = suc (length line)
 
--- I for characters skipped in arguments between two columns, and the flags of what is left over after them
+-- I for a character skipped between the two columns of the arguments, and the flags of what is left over after the second column
 abbrev pub argument_flags : Bytes → ℕ → ℕ → ℕ
 argument_flags line start end = bit_or (skip_flags line start end) (left_over line end)
 
@@ -29,7 +29,7 @@ pub record ListAt (A : Type 0) : Type 0 where
   pub list : List A
   pub end : ℕ
 
--- a list with one more item before those that follow it
+-- a list with one more item at its front
 abbrev pub item_before : {A : Type 0} → A → ListAt A → ListAt A
 item_before item more = record { list = item ∷ more.list; end = more.end }
 
@@ -51,7 +51,7 @@ elements_at line column = elements_within (most_elements line) line column
 
 -- ---- names
 
--- the elements of a list of names, None for one that isn't a name
+-- a list of names that begins with this element, and has further ones only after a comma; None for an element that isn't a name
 abbrev pub names_by : (ℕ → ListAt (Option Span)) → ListedName → ListAt (Option Span)
 names_by more element =
     if element.goes_on then item_before element.name (more element.end) else record { list = element.name ∷ []; end = element.end }

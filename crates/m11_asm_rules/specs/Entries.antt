@@ -1,5 +1,5 @@
--- How definitions see the fields of the table in the code. (MACRO-11 Language Reference Manual, "Symbols and expressions" and "Program
--- section directives".)
+-- The section that an entry of the code's table represents, and the steps by which the code makes the first table. (MACRO-11 Language
+-- Reference Manual, "Symbols and expressions" and "Program section directives".)
 use Rattle.std.specs.Prelude.{ℕ, [], ◌∷◌, ◌++◌}
 use Rattle.m11_base.specs.Rad50.{Name}
 use Rattle.m11_asm_rules.specs.declared.sections.Section.{Section}

@@ -11,7 +11,7 @@ use Rattle.m11_asm_rules.specs.Placements.{table_after}
 abbrev pub is_label_or_firm : Definition → Bool
 is_label_or_firm definition = is_some definition.label || definition.is_firm
 
--- a label with its section and its location, or a firm value; none for any other definition
+-- a label with its section and its location, or a firm value; none for any other definition, or without one
 abbrev pub label_or_value : Option Definition → Option Definition
 label_or_value (Some definition) = if is_label_or_firm definition then Some (firm_part definition) else None
 label_or_value None = None
@@ -20,7 +20,7 @@ label_or_value None = None
 abbrev pub label_or_value_of : Key → Definitions → Option Definition
 label_or_value_of key definitions = label_or_value (last_definition key definitions)
 
--- a map solves a source if the placement under it has the same labels and firm values as the map
+-- a map solves the equation of a source if the placement under it has the same labels and firm values as the map
 abbrev pub Solves : Map → List UnfoldedLine → Type 0
 Solves map lines = (key : Key)
     → label_or_value_of key map.definitions ≡ label_or_value_of key (table_after map lines).definitions

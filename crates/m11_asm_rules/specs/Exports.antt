@@ -63,8 +63,8 @@ ident line start = elim (next_part line start true) [
   | None ↦ refused line start
 ]
 
--- ---- .END e: the transfer address; its value and the flags of its value that depend on names come from the first pass; in each pass, the
--- line itself has the flags that depend on its text alone
+-- ---- .END e: the transfer address. Its value, and the flags of the value that depend on names, come from the first pass; the flags that
+-- depend on the text of the expression alone are flags of the line in each pass
 
 abbrev pub transfer : Map → Table → Expression → Option Quantity
 transfer map table tokens =

@@ -95,7 +95,7 @@ fields_at firm line start operation =
     let second = field_after firm line first.end (second_kind operation) in
     record { first = first.field; second = second.field; end = second.end; flags = bit_or first.flags second.flags }
 
--- a list of forms, with the form of a field before them if the field is an operand
+-- a list of forms, preceded by the form of a field if the field is an operand
 abbrev pub with_form : {E : Type 0} → Field E → List (Form E) → List (Form E)
 with_form (content.Operand form) forms = form ∷ forms
 with_form field forms = forms

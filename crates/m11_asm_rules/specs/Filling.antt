@@ -1,4 +1,4 @@
--- The gap before what a line emits, and whether both fill the bytes by which the line moves its counter. (MACRO-11 Language
+-- The gap before what a line emits, and whether the line moves its counter by exactly the gap and the emitted bytes. (MACRO-11 Language
 -- Reference Manual, "Current location counter".)
 use Rattle.std.specs.Prelude.{◌≡◌, ◌⊎◌, ℕ, ◌+◌, true, List, []}
 use Rattle.m11_obj.specs.declared.pieces.PieceContent.{PieceContent}

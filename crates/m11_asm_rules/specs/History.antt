@@ -27,7 +27,7 @@ pub record KeyDefinition : Type 0 where
 abbrev pub defining : Key → Definition → KeyDefinition
 defining key definition = record { key = key; definition = definition }
 
--- a label's definition of a key; none if the key is already defined
+-- the definition that a label gives its key; none if the key is already defined
 abbrev pub key_definitions : Table → Key → List KeyDefinition
 key_definitions table key = if is_defined key table.definitions then [] else defining key (labelled table) ∷ []
 
@@ -46,7 +46,7 @@ labels_definitions line table [] = []
 labels_definitions line table (named ∷ labels) =
     label_definitions table (label_name line named) named.kind ++ labels_definitions line (with_label line table named) labels
 
--- an assignment's definition of a name; none if the name is the name of a label
+-- the definition that an assignment, `.NARG` or `.NCHR` gives a name; none if the name is a label's
 abbrev pub name_definition : Table → Name → Definition → List KeyDefinition
 name_definition table name definition =
     if is_labelled (Named name) table.definitions then [] else defining (Named name) definition ∷ []
@@ -69,7 +69,7 @@ definitions_from map table (given ∷ lines) =
 abbrev pub definitions_of : Map → List UnfoldedLine → List KeyDefinition
 definitions_of map lines = definitions_from map first_table lines
 
--- the last definition of a key in a list, or else the one before the list, if there is one
+-- the last definition of a key in a list; if the list has none, the definition before the list, if there is one
 abbrev pub last_of : Key → Option Definition → List KeyDefinition → Option Definition
 last_of key before [] = before
 last_of key before (one ∷ others) = last_of key (if is_same one.key key then Some one.definition else before) others
@@ -96,7 +96,7 @@ pub record SaysWhatTheySaid (defined : List KeyDefinition) (moves : List Section
   -- the last definition of each key comes from the last line that defines the key; if no line does, the name of a register is defined as
   -- the register, and no other key is defined
   pub definitions : (key : Key) → last_definition key table.definitions ≡ last_of key (last_definition key first_definitions) defined
-  -- a counter is the location last set in its section plus the sizes since then, modulo 65536; a section's size is the greatest location
-  -- of its counter after a line
+  -- a counter is the location last set in its section, or 0 if none was set, plus the sizes of the lines since then, modulo 65536; the size
+  -- of a section is the greatest location that its counter had after a line that moved it
   pub counters : (section : ℕ) → location_of section table ≡ location_in section moves
   pub sizes : (section : ℕ) → size_of section table ≡ size_in section moves

@@ -28,7 +28,7 @@ abbrev pub line_context : Map → Table → ℕ → LineContext
 line_context map table location =
     record { table = table; location = location; known = known_at map LocalOnly table location; refers = known_at map MayBeGlobal table location }
 
--- the emission of an instruction with these fields, and the flags of its text: what is missing, skipped or left over
+-- the emission of an instruction with these fields, including the flags of its text, for anything missing, skipped or left over
 abbrev pub assembled : LineContext → Bytes → ℕ → Op → Fields → Emission
 assembled line_context line start operation fields =
     with_flags (bit_or fields.flags (argument_flags line start fields.end))

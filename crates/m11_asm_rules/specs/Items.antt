@@ -52,8 +52,7 @@ mark_by (kind.Reference name) = OfObject
 abbrev pub value_items : Quantity → List Item
 value_items value = if is_defined value then InWord value.number (mark_by value.kind) ∷ [] else []
 
--- the items of an action: an assigned value is an item even if the name is invalid or a label's, and so doesn't get the value; `.=` has no
--- item
+-- the items of an action: the assigned value, even if its name is invalid or a label's and so doesn't get the value; `.=` has no item
 abbrev pub action_items : Map → Table → Action → List Item
 action_items map table (Assign name is_global tokens) =
     value_items (value (known_at map LocalOnly table (location table)) tokens)
@@ -70,7 +69,8 @@ abbrev pub items : Map → Table → UnfoldedLine → List Item
 items map table given =
     flat_map content_items (line_emission map (stands table given) given).contents ++ assigned_items map table given
 
--- ---- which lines are listed: flagged ones; others if the level after them isn't below 0, and lines of expansions only under `.LIST ME`
+-- ---- which lines are listed: a flagged line always; any other line if the listing level after it isn't below 0, and a line of an
+-- expansion only if `.LIST ME` is in force too
 
 abbrev pub is_shown : Modes → Bool → Bool
 is_shown modes is_expanded =

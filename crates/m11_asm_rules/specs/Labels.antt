@@ -1,5 +1,5 @@
 -- Definitions by the labels of a line. (MACRO-11 Language Reference Manual, "Label field", "Local symbols" and "Multiple definition of
--- symbols". This project's own: a label with a defined name begins no block and makes nothing global; and counts have 64 bits.)
+-- symbols". This project's own: a label whose name is already defined begins no block and makes nothing global; and counts have 64 bits.)
 use Rattle.std.specs.Prelude.{ℕ, ◌+◌, ◌-◌, ◌^◌, min, Bool, true, false, if◌then◌else◌, List, [], ◌∷◌, Option, Some, None, fold}
 use Rattle.std.specs.Int.RustNames.{bit_or}
 use Rattle.std.specs.Option.{option_map_or}
@@ -36,7 +36,7 @@ with_global name table = record table { globals = insert_key is_same_name table.
 abbrev pub one_more : ℕ → ℕ
 one_more count = min (count + 1) (2 ^ 64 - 1)
 
--- the table when a new block of local symbols begins
+-- the table after a new block of local symbols has begun
 abbrev pub with_block : Table → Table
 with_block table = record table { modes = record table.modes { block = one_more table.modes.block } }
 

@@ -12,18 +12,18 @@ use Rattle.m11_asm_rules.specs.Meanings.{Map}
 use Rattle.m11_asm_rules.specs.SymbolUses.{SymbolUse, symbol_uses}
 use Rattle.m11_asm_rules.specs.Tables.{Table}
 
--- the most names that a source may have, without those of the registers
+-- the most names that a source may have, not counting those of the registers
 abbrev pub most_names : ℕ
 most_names = 4096
 
--- the most names that a table may define, with those of the registers
+-- the most names that a table may define, including those of the registers
 abbrev pub most_defined_names : ℕ
 most_defined_names = most_names + length registers
 
 abbrev pub most_local_symbols : ℕ
 most_local_symbols = 16384
 
--- the most sections that a source may have, with the absolute one and the blank one
+-- the most sections that a source may have, including the absolute one and the blank one
 abbrev pub most_sections : ℕ
 most_sections = 64
 
@@ -31,7 +31,7 @@ pub data LimitFault : Type 0 where
   TooManySymbols : LimitFault
   TooManySections : LimitFault
 
--- ---- names used by lines, each once, in order of appearance: the first pass counts them too
+-- ---- the names that lines use, except those of the registers, each once, in order of appearance: the first pass counts them too
 
 abbrev pub is_counted : Name → List Name → Bool
 is_counted name names = is_defined (Named name) first_definitions || list_any (λ other. is_same_name other name) names
@@ -48,7 +48,7 @@ names_after map table [] names = names
 names_after map table (given ∷ lines) names =
     names_after map (after_line map table given) lines (with_uses (symbol_uses table given) names)
 
--- ---- how many names a table defines by labels and assignments, with those of the registers; and how many local symbols by labels
+-- ---- how many names a table defines, including those of the registers, and how many local symbols it defines
 
 abbrev pub name_count : Table → ℕ
 name_count table = length table.definitions.names
@@ -56,14 +56,14 @@ name_count table = length table.definitions.names
 abbrev pub local_count : Table → ℕ
 local_count table = length table.definitions.local_symbols
 
--- ---- faults: if one line exceeds both kinds of limit, the fault is `TooManySymbols`, since a line that selects a section has no names but
--- its labels, which come first
+-- ---- faults: if one line exceeds both kinds of limit, the fault is `TooManySymbols`, since a line that selects a section uses no symbols
+-- but its labels, which come first
 
 -- whether a table defines more names or more local symbols than the limits allow
 abbrev pub has_too_many : Table → Bool
 has_too_many table = nat_lt most_defined_names (name_count table) || nat_lt most_local_symbols (local_count table)
 
--- the limit, if any, exceeded by the names that lines use, or by the table
+-- the fault of the limit, if any, exceeded by the names that lines use or by the table
 abbrev pub limit_fault : List Name → Table → Option LimitFault
 limit_fault names table =
     if nat_lt most_names (length names) || has_too_many table then Some TooManySymbols

@@ -91,7 +91,8 @@ pieces map table given =
 abbrev pub known_end : Bytes → Body → ℕ
 known_end line statement = elim statement [ body.Operate name ↦ name.start | _ ↦ length line ]
 
--- the flags of the line itself, M of its labels, I for skipped characters, and the flags of its operation, its emission and its unfolding
+-- the flags of an over-long line and of invalid labels, M for labels defined before, I for skipped characters, and the flags of the
+-- operation, the emission and the unfolding
 abbrev pub flags : Map → Table → UnfoldedLine → ℕ
 flags map table given =
     bit_or

@@ -5,9 +5,9 @@ use Rattle.std.specs.List.{list_any}
 
 -- a move of the location counter by a line
 pub data Move : Type 0 where
-  -- the counter moves on by some bytes
+  -- the counter moves on by this many bytes
   Steps : ℕ → Move
-  -- the counter is set to a location
+  -- the counter is set to this location
   Goes : ℕ → Move
 
 abbrev pub is_set : Move → Bool
@@ -53,11 +53,12 @@ moves_in section (moved ∷ more) =
 abbrev pub location_in : ℕ → List SectionMove → ℕ
 location_in section moves = location_after (moves_in section moves)
 
--- the greatest location of a counter after any of the second moves, which follow the first ones; 0 if there are none
+-- the greatest location of a counter after any move of the second list, if the moves of the first list come before; 0 if the second list is
+-- empty
 abbrev pub greatest_after : List Move → List Move → ℕ
 greatest_after before [] = 0
 greatest_after before (move ∷ moves) = max (location_after (before ++ move ∷ [])) (greatest_after (before ++ move ∷ []) moves)
 
--- the size of a section in bytes: the greatest location of its counter after a move
+-- the size of a section in bytes: the greatest location of its counter after any of its moves; 0 if it has none
 abbrev pub size_in : ℕ → List SectionMove → ℕ
 size_in section moves = greatest_after [] (moves_in section moves)

@@ -1,4 +1,4 @@
--- How definitions see the map in the code: the final values of the names of a source. (MACRO-11 Language Reference Manual, "Symbols".)
+-- The map that the code's map represents: the final values of the names of a source. (MACRO-11 Language Reference Manual, "Symbols".)
 use Rattle.std.specs.Prelude.{Option, Some, None}
 use Rattle.m11_asm_rules.specs.Meanings.{Map, empty_map, map_of}
 use Rattle.m11_asm_rules.specs.Tables.{Table}

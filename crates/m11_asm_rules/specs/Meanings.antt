@@ -1,4 +1,4 @@
--- The values of symbols in a line: by the last definition before the line, or without one by the final definition in the whole source.
+-- The value of a symbol in a line: that of its last definition before the line, or else that of its final definition in the whole source.
 -- (MACRO-11 Language Reference Manual, "Symbols", "Local symbols" and "Current location counter".)
 use Rattle.std.specs.Prelude.{◌≡◌, ℕ, Bool, true, false, List, [], ◌∷◌, Option, Some, None, ⊤}
 use Rattle.std.specs.Int.RustNames.{bit_or}
@@ -33,25 +33,25 @@ map_of table = record { definitions = table.definitions; doubly_defined = table.
 abbrev pub flag_D : ℕ
 flag_D = 0o4
 
--- a known number with these flags; 0 with these flags and U if it is unknown
+-- a known number with these flags; if the value is unknown, 0 with these flags and U
 abbrev pub quantity_of : ℕ → Standing → Quantity
 quantity_of flags (Known number kind) = record { number = number; kind = kind; flags = flags }
 quantity_of flags Unknown = absolute 0 (bit_or flags flag_U)
 
--- the value of a symbol without a definition: a reference to another object, if it is a name and a reference is allowed; otherwise 0
--- with U
+-- the value of a symbol without a definition: a reference to another object, if the symbol is a name and a reference is allowed; otherwise
+-- 0, flagged U
 abbrev pub undefined : Context → Symbol → Quantity
 undefined MayBeGlobal (Ordinary name) = record { number = 0; kind = Reference name; flags = 0 }
 undefined context symbol = absolute 0 flag_U
 
--- the value of a definition, flagged D if its key is doubly defined; if there is no definition, the other value
+-- the value of a definition, flagged D if its key is doubly defined; `other` if there is no definition
 abbrev pub defined_or : Key → Keys → Quantity → Option Definition → Quantity
 defined_or key doubly_defined other (Some definition) =
     quantity_of (flag_if (has_key key doubly_defined) flag_D) definition.standing
 defined_or key doubly_defined other None = other
 
--- the value of a key by its last definition before the line, or else by its definition in the map; if there is neither, the other
--- value
+-- the value of a key by its last definition before the line, or else by its definition in the map, flagged D if the key is doubly defined
+-- there; `other` if there is neither
 abbrev pub meaning_of : Map → Quantity → Table → Key → Quantity
 meaning_of map other table key =
     defined_or key table.doubly_defined (defined_or key map.doubly_defined other (last_definition key map.definitions))

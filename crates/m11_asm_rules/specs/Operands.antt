@@ -27,7 +27,7 @@ use Rattle.m11_asm_rules.specs.declared.operands.WrittenOperand.TheVariants.{Abs
 --   #n     immediate: 27            @#n         absolute: 37
 --   A      relative: 67             @A          relative deferred: 77
 
--- the modes without and with `@`
+-- the mode without `@` (false) or with it (true)
 abbrev pub autoincrement : Bool → Mode
 autoincrement is_deferred = if is_deferred then mode.AutoincrementDeferred else mode.Autoincrement
 
@@ -40,7 +40,7 @@ indexed is_deferred = if is_deferred then mode.IndexDeferred else mode.Index
 abbrev pub direct : Bool → Mode
 direct is_deferred = if is_deferred then mode.RegisterDeferred else mode.Register
 
--- the form of an operand as written; firm names decide whether an expression without `(` is a register, and other names count as 0
+-- the form of an operand as written; firm names decide whether an operand without `#` or `(` is a register, and other names count as 0
 abbrev pub form_of : KnownSymbols → WrittenOperand Expression → Form Expression
 form_of firm Absent = form.Absent
 form_of firm (Plain is_deferred place) =
@@ -96,14 +96,15 @@ abbrev pub closed : (Expression → WrittenOperand Expression) → Bytes → ℕ
 closed operand line start =
     closed_by (operand (expression line start)) (expression_end line start) (tokens_from line (expression_end line start))
 
--- an operand after its `(R)`: `(R)+` if `+` follows, otherwise `(R)`; each with `@` if the flag is true
+-- an operand that begins with `(R)`, or with `@(R)` if the flag is true; the tokens after the `)` decide: `(R)+` if the first is `+`,
+-- otherwise `(R)`
 abbrev pub stepped_by : Bool → Expression → ℕ → List Lexeme → Read
 stepped_by is_deferred register end [] = read (Pointed is_deferred register) end 0
 stepped_by is_deferred register end (token ∷ tokens) =
     if is_plus token.sort then read (Stepped is_deferred register) token.end 0 else read (Pointed is_deferred register) end 0
 
--- an operand that begins with `(` or, if the flag is true, with `@(`, and whose register begins at a column: `(R)` or `(R)+` after any `@`;
--- flagged A if the `)` is missing
+-- an operand that begins with `(`, or with `@(` if the flag is true; its register begins at a column. It is `(R)` or `(R)+`, flagged A if
+-- the `)` is missing
 abbrev pub bracketed : Bool → Bytes → ℕ → Read
 bracketed is_deferred line start =
     let register = expression line start in let end = expression_end line start in elim (tokens_from line end) [

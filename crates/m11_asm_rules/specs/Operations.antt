@@ -23,8 +23,8 @@ use Rattle.m11_asm_rules.specs.declared.operators.Directive.{Directive}
 use Rattle.m11_asm_rules.specs.declared.operators.Directive.TheVariants as word
 use Rattle.m11_asm_rules.specs.declared.operators.Operator.TheVariants as operators
 
--- the operation of a directive whose arguments begin at a column; `arguments` is the number of actuals of the macro call around its line,
--- if there is one
+-- the operation of a directive whose name ends at a column; `arguments` is the number of actuals of the innermost macro call around its
+-- line, None if there is no such call
 abbrev pub directive : Option ℕ → Bytes → ℕ → Directive → Operation
 directive arguments line start word.Word = storage.words line start
 directive arguments line start word.Byte = storage.bytes line start
@@ -55,7 +55,7 @@ directive arguments line start word.Nchr = counts.nchr line start
 directive arguments line start word.End = exports.ending line start
 
 -- what the text after the labels does; a text that isn't an assignment and doesn't begin with a known operator is read as the arguments of
--- `.WORD`, and an empty one does nothing
+-- `.WORD`, and an empty text does nothing
 abbrev pub operation_of : Option ℕ → Bytes → Body → Operation
 operation_of arguments line body.Nothing = does NoAction 0
 operation_of arguments line (body.Assign made) =

@@ -11,11 +11,11 @@ use Rattle.m11_asm_rules.specs.Tables.{Table, first_table}
 abbrev pub after_lines : Map → Table → List UnfoldedLine → Table
 after_lines map table lines = fold (after_line map) table lines
 
--- the table after the first lines of a source
+-- the table after these lines, if they are the first of a source
 abbrev pub table_after : Map → List UnfoldedLine → Table
 table_after map lines = after_lines map first_table lines
 
--- the map of a source: the definitions after its placement under the empty map
+-- the map of a source, from the table after its placement under the empty map
 abbrev pub program_map : List UnfoldedLine → Map
 program_map lines = map_of (table_after empty_map lines)
 

@@ -26,7 +26,7 @@ use Rattle.m11_asm_rules.specs.Sections.{Section, number_of, numbered, of_absolu
 abbrev pub attributes_named : List Bytes → List Attribute
 attributes_named names = flat_map (λ name. option_to_list (attribute_named name)) names
 
--- attribute bits changed by attributes; of two attributes for the same bit the last one counts
+-- attribute bits, changed by these attributes in turn; of two attributes for the same bit, the later one counts
 abbrev pub with_attributes : ℕ → List Attribute → ℕ
 with_attributes bits attributes = fold with_attribute bits attributes
 
@@ -48,7 +48,7 @@ pub data SectionAt : Type 0 where
   NamedAt : Name → ℕ → SectionAt
   Bad : SectionAt
 
--- the name at a column: `Unnamed` if a comma or no token is there, `Bad` if another token isn't a name
+-- the name at a column: `Unnamed` if there is a comma or no token, `Bad` if there is any other token that isn't a name
 abbrev pub section_at : Bytes → ℕ → SectionAt
 section_at line start = elim (tokens_from line start) [
   | [] ↦ Unnamed
@@ -63,7 +63,8 @@ section_at line start = elim (tokens_from line start) [
 abbrev pub attributes_at : Bytes → ℕ → ListAt (Option Span)
 attributes_at line end = elim (column_after_comma line end) [ Some next ↦ names_at line next | None ↦ record { list = []; end = end } ]
 
--- the operation that selects a section, with these attributes if the section is new; flagged A if a name isn't the name of an attribute
+-- the operation that selects a section, with these attributes if the section is new; its flags are those of the list, with A for a name
+-- that isn't the name of an attribute
 abbrev pub selecting : Bytes → ℕ → Name → ListAt (Option Span) → Operation
 selecting line start name names =
     does (Select name of_program (attributes_named (texts_of line names.list)))

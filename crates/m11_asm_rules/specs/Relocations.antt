@@ -13,23 +13,23 @@ use Rattle.m11_asm_rules.specs.Tables.{Table, section_name}
 
 -- what a value is relative to, in the context of a line
 pub data Origin : Type 0 where
-  -- the section of the line
+  -- the current section
   Here : Origin
   -- location 0: the value is absolute
   Zero : Origin
   -- another section
   InSection : Name → Origin
-  -- a name of another object
+  -- a name that another object defines
   InObject : Name → Origin
 
--- what a value of this kind is relative to; a register counts as an absolute number, since none is allowed where values are emitted
+-- what a value of this kind is relative to; a register counts as an absolute number, since no register is allowed where values are emitted
 abbrev pub origin_of : Table → Kind → Origin
 origin_of table (kind.Section name) = if is_same_name name (section_name table) then Here else InSection name
 origin_of table (kind.Reference name) = InObject name
 origin_of table other = Zero
 
--- the relocations of a value: in a byte, or in a word that isn't a relative operand; in a relative operand in a REL section; and in one in
--- an ABS section
+-- the relocations of a value: in a byte, or in a word that isn't a relative operand; in a relative operand in a REL section; and in a
+-- relative operand in an ABS section
 pub record Row : Type 0 where
   pub in_word : RelocationKind
   pub in_relocatable : RelocationKind
@@ -39,7 +39,7 @@ abbrev pub row : RelocationKind → RelocationKind → RelocationKind → Row
 row in_word in_relocatable in_absolute =
     record { in_word = in_word; in_relocatable = in_relocatable; in_absolute = in_absolute }
 
--- the relocations of a value with an origin
+-- the relocations of a value with this origin
 abbrev pub row_of : Origin → Row
 row_of Here = row relocation.Internal relocation.Fixed relocation.Fixed
 row_of Zero = row relocation.Fixed relocation.InternalDisplaced relocation.Fixed
@@ -58,7 +58,7 @@ relocation_by is_relative is_moved row =
 abbrev pub distance : ℕ → ℕ → ℕ
 distance location target = (target + 131072 - (location + 2)) % 65536
 
--- the stored constant: the distance of a relative operand that the linker doesn't change; the number of any other value
+-- the stored constant: for a relative operand that the linker doesn't change, the distance to its target; for any other value, the number
 abbrev pub constant : Bool → RelocationKind → ℕ → ℕ → ℕ
 constant true relocation.Fixed location number = distance location number
 constant is_relative other location number = number
@@ -76,7 +76,7 @@ stored table is_relative location value =
 abbrev pub fixed : ℕ → StoredConstant
 fixed number = record { constant = number; kind = relocation.Fixed }
 
--- whether a value belongs to the section of the line; in an ABS section every absolute number and every register does
+-- whether a value of this kind belongs to the current section; in an ABS section every absolute number and every register does
 abbrev pub is_here : Table → Kind → Bool
 is_here table (kind.Section name) = is_same_name name (section_name table)
 is_here table (kind.Reference name) = false

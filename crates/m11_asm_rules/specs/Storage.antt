@@ -37,7 +37,7 @@ bytes_from map table location (element ∷ elements) =
     followed_by (byte table location (element_value (known_at map MayBeGlobal table location) element))
     (bytes_from map table (further location 1) elements)
 
--- ---- .BLKB e, .BLKW e, whose units are bytes and words: one unit without e; the value of e depends on firm names alone
+-- ---- .BLKB e and .BLKW e reserve e units, bytes or words; one unit without e; the value of e depends on firm names alone
 
 abbrev pub room : ℕ → Bytes → ℕ → Operation
 room unit line start =

@@ -1,6 +1,6 @@
 -- `.ASCII`, `.ASCIZ` and `.RAD50`, and the codes of `.IDENT`. (MACRO-11 Language Reference Manual, ".ASCII directive", ".ASCIZ directive",
--- ".RAD50 directive" and ".IDENT directive". This project's own: a character outside RADIX-50 is a blank, flagged A; and a code over octal
--- 47 is cut to its low six bits, flagged T.)
+-- ".RAD50 directive" and ".IDENT directive". This project's own: a character outside RADIX-50 counts as a blank, flagged A; and a code over
+-- octal 47 is cut to its low six bits, flagged T.)
 use Rattle.std.specs.Prelude.{ℕ, zero, suc, ◌+◌, ◌-◌, ◌*◌, ◌/◌, ◌%◌, nat_lt, Bool, true, false, if◌then◌else◌, List, [], ◌∷◌, ◌++◌, length, map, Option, Some, None, unwrap_or, is_none, take, replicate}
 use Rattle.std.specs.List.{list_any}
 use Rattle.std.specs.Int.RustNames.{bit_or}
@@ -153,7 +153,7 @@ packed_words (first ∷ []) = packed first 0 0 ∷ []
 packed_words (first ∷ (second ∷ [])) = packed first second 0 ∷ []
 packed_words (first ∷ (second ∷ (third ∷ codes))) = packed first second third ∷ packed_words codes
 
--- the size of a packed text in bytes: a word for every three codes, and one for the last one or two
+-- the size of a packed text in bytes: a word for every three codes, and a word for one or two codes left over
 abbrev pub packed_size : List TextPart → ℕ
 packed_size parts = (parts_size parts + 2) / 3 * 2
 

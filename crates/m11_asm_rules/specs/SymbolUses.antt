@@ -1,5 +1,5 @@
--- The symbols that a line defines or reads, in order of appearance. (MACRO-11 Language Reference Manual, "Symbols", "Table of contents
--- and symbol table" and ".GLOBL directive". This project's own: text left over in a line uses no symbols.)
+-- The symbols that a line defines, makes global or reads, in order of appearance. (MACRO-11 Language Reference Manual, "Symbols", "Table of
+-- contents and symbol table" and ".GLOBL directive". This project's own: text left over in a line uses no symbols.)
 use Rattle.std.specs.Prelude.{List, [], ◌∷◌, ◌++◌, map, Option}
 use Rattle.std.specs.List.{flat_map}
 use Rattle.std.specs.Option.{option_to_list}
@@ -27,7 +27,7 @@ use Rattle.m11_asm_rules.specs.declared.operands.Form.{Form}
 use Rattle.m11_asm_rules.specs.declared.operands.Form.TheVariants.{Absent, InRegister, Indexed, Unindexed, AfterCounter}
 use Rattle.m11_asm_rules.specs.Tables.{Table}
 
--- a use of a symbol, and whether an undefined name refers to another object at that place
+-- a symbol that a line uses, and whether an undefined name at that place refers to another object
 pub record SymbolUse : Type 0 where
   pub symbol : Symbol
   pub context : Context

@@ -19,7 +19,7 @@ pub record Table : Type 0 where
   pub doubly_defined : Keys
   -- names that were made global, each once
   pub globals : List Name
-  -- sections by their numbers, the location counter of each, and the greatest location that it had after a line
+  -- the sections in the order of their numbers, the location counter of each, and the greatest location that each counter had after a line
   pub sections : List Section
   pub counters : List ℕ
   pub sizes : List ℕ
@@ -37,7 +37,7 @@ first_table = record {
   modes = first_modes;
 }
 
--- the name of the section of the next line
+-- the name of the current section, which is the section of the next line
 abbrev pub section_name : Table → Name
 section_name table = (numbered table.modes.section table.sections).name
 
@@ -48,7 +48,7 @@ location_of number table = get_or table.counters number 0
 abbrev pub size_of : ℕ → Table → ℕ
 size_of number table = get_or table.sizes number 0
 
--- the location counter of the section of the next line
+-- the location counter of the current section
 abbrev pub location : Table → ℕ
 location table = location_of table.modes.section table
 

@@ -10,15 +10,16 @@ use Rattle.m11_asm_rules.specs.Lines.{after_line, stands}
 use Rattle.m11_asm_rules.specs.Meanings.{Map, firm_known}
 use Rattle.m11_asm_rules.specs.Tables.{Table, first_table, location}
 
--- what conditions, repeats and macros know once the labels of their line are defined
+-- the symbols known to conditions, repeats and macros once the labels of their line are defined
 abbrev pub known_after_labels : Table → KnownSymbols
 known_after_labels stood = firm_known stood (location stood)
 
--- what is known at each line follows from the lines before it and from its own labels
+-- the symbols known at each line are the firm ones that the lines before it and its own labels define
 abbrev pub KnowLinesBefore : Map → Table → List UnfoldedLine → Type 0
 KnowLinesBefore map table [] = ⊤
 KnowLinesBefore map table (given ∷ lines) = (given.known ≡ known_after_labels (stands table given)) × KnowLinesBefore map (after_line map table given) lines
 
--- the live lines of a source, up to a stage of its unfolding, placed under a map
+-- these are the live lines of a source up to a stage of its unfolding, and each was unfolded with the symbols that are known at the line if
+-- the lines are placed under this map
 abbrev pub AreLines : Map → List SourceLine → List UnfoldedLine → Stage → Type 0
 AreLines map source lines stage = Unfolds source lines stage × KnowLinesBefore map first_table lines

@@ -15,7 +15,7 @@ pub enum Key {
 /// The value of a symbol, if it is known.
 #[derive(Clone, Copy)]
 pub enum Standing {
-    /// A number, and what it is relative to.
+    /// The value is known: a number, and its kind.
     Known(u16, Kind),
     /// The value isn't known.
     Unknown,
@@ -28,6 +28,7 @@ pub struct Definition {
     pub standing: Standing,
     /// Whether the value follows from the lines up to this definition alone, and not from a name that a later line defines.
     pub is_firm: bool,
-    /// The section of a label; the number of its value is its location there. None for any other definition.
+    /// The section of a label; the number of `standing` is the label's location in that section. None for a definition that isn't a
+    /// label's.
     pub label: Option<Name>,
 }

@@ -13,7 +13,7 @@ pub enum FieldKind {
     Target,
     /// The number of EMT, TRAP or MARK.
     Number,
-    /// There is no such field.
+    /// The instruction has no such field.
     NoField,
 }
 

@@ -1,4 +1,5 @@
-//! Laws of how lines are read and placed, and of the map of a source. Each is the contract of a function that does nothing.
+//! Laws of how lines are read and placed, and of the map of a source. Each is the contract of a function whose body is empty or only calls
+//! a law needed to prove it.
 
 ghost use Rattle.std.specs.Prelude.{◌≡◌, ◌≢◌, ◌+◌, ◌≤◌, ◌%◌, ℕ, true, false, length, List, [], ◌∷◌, ◌++◌, map};
 ghost use Rattle.std.specs.List.{AllByRecursion};
@@ -32,7 +33,7 @@ ghost use Rattle.m11_unfold_rules.specs.Unfolding.{UnfoldedLine};
 
 use m11_scan_statements::labels_and_body_stand_in_order;
 
-/// A line that steps the counter of its section moves the counter by the line's size in bytes, modulo 65536.
+/// If a line moves the counter of its section on, the counter grows by the line's size in bytes, modulo 65536.
 #[tactic(auto, using(crate::proofs::Counters::steps_on))]
 pub fn a_line_steps_the_counter()
     ensures { (section size : ℕ) (moves : List SectionMove) → location_in section (moves ++ in_section section (Steps size) ∷ [])
@@ -46,7 +47,7 @@ pub fn a_line_sets_the_counter()
         ≡ location % 65536 }
 {}
 
-/// A line doesn't change the counters of other sections.
+/// A line that moves the counter of one section leaves the counters of all other sections as they are.
 #[tactic(auto, using(crate::proofs::Counters::stays_there))]
 pub fn other_sections_keep_their_counter()
     ensures { (section other : ℕ) (move : Move) (moves : List SectionMove) → other ≢ section
@@ -54,15 +55,15 @@ pub fn other_sections_keep_their_counter()
 {}
 
 /// A table records what the lines say. It has the last definition of each name and each local symbol. The counter of each section is the
-/// location last set there plus the sizes of the lines since then, modulo 65536; the size of each section is the greatest location that its
-/// counter had after a line. The lines are arbitrary, so this holds after each line of a source.
+/// location last set there, or 0 if none was set, plus the sizes of the lines since then, modulo 65536. The size of each section is the
+/// greatest location that its counter had after a line. The lines are arbitrary, so this holds after each line of a source.
 pub fn the_table_says_what_the_lines_said()
     ensures { (map : Map) (lines : List UnfoldedLine)
         → SaysWhatTheySaid (definitions_of map lines) (moves_of map lines) (table_after map lines) }
 {}
 
-/// No source within the limits on lines and on their length reaches the greatest count of blocks or listing levels, at which counting
-/// would stop.
+/// If a source keeps the limits on the number and the length of its lines, its counts of blocks and of listing levels stay below the number
+/// at which counting would stop.
 pub fn no_source_reaches_the_greatest_count()
     ensures { (map : Map) (lines : List UnfoldedLine) → AllByRecursion IsInWidth lines → length lines ≤ most_lines
         → AreBelowGreatest (table_after map lines).modes }
@@ -88,8 +89,8 @@ pub fn an_operand_has_at_most_one_word()
     ensures { (form : Form Expression) → words_of form ≤ 1 }
 {}
 
-/// If two tables have the same firm part, an expression that is assigned after one or the other makes definitions with the same firm
-/// part, under any two maps.
+/// If two tables have the same firm part, then an assignment of an expression gives definitions with the same firm part after either table,
+/// under any two maps.
 pub fn firm_assignments_are_those_of_every_map()
     ensures { (one other : Map) (first second : Table) (tokens : Expression)
         → firm_table first ≡ firm_table second
@@ -103,22 +104,22 @@ pub fn placements_are_the_same_under_every_map()
         → firm_table (table_after one lines) ≡ firm_table (table_after other lines) }
 {}
 
-/// Either a line emits nothing, as one that reserves room does; or what it emits has as many bytes as the line adds to its counter, apart
-/// from those skipped first.
+/// Either a line emits nothing, for instance because it reserves room; or it emits as many bytes as it moves its counter by, apart from a
+/// byte skipped first to reach an even location.
 pub fn a_line_fills_what_it_steps_by()
     ensures { (map : Map) (table : Table) (given : UnfoldedLine)
         → Fills (gap_before table (action given.is_own given.arguments given.live.line.text)) (line_emission map table given).contents
         (line_change (firm_table table) given) }
 {}
 
-/// The map of a source solves its equation: the placement under that map has the same labels, with their locations, and the same firm
-/// values as the map. The equation doesn't concern other names.
+/// The map of a source solves the source's equation: the placement under that map has the same labels, with their locations, and the same
+/// firm values as the map. The equation doesn't concern other names.
 pub fn the_map_of_a_source_solves_it()
     ensures { (lines : List UnfoldedLine) → Solves (program_map lines) lines }
 {}
 
-/// Every map that solves a source has the labels of the source's own map, with their locations, and its firm values, whatever else it
-/// has.
+/// Every map that solves the equation of a source has the same labels, at the same locations, and the same firm values as the source's own
+/// map. It may differ from that map in anything else.
 pub fn solutions_are_alike()
     ensures { (map : Map) (lines : List UnfoldedLine) → Solves map lines → AreAlike map (program_map lines) }
 {}

@@ -34,7 +34,7 @@ impl<'a> Map<'a> {
         Map { table: None }
     }
 
-    /// The map of the second pass, from the table that the first one left.
+    /// The map of the second pass, from the table after the first pass.
     pub fn of(table: &'a Table) -> Map<'a>
         ensures { result ≡ map_of table.now }
     {

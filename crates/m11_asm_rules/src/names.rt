@@ -20,9 +20,9 @@ use m11_scan::{ErrorFlags, Radix};
 use m11_scan_expressions::{Kind, Names, Symbol, Value};
 use std::marker::Model;
 
-/// The symbols that a line uses at one kind of place. `.` is a location; any other symbol has the value of its last definition before the
-/// line, or else of its definition in the map. Without either, a name refers to another object if the place allows that; otherwise the
-/// symbol is 0, flagged U.
+/// The symbols that a line uses at one kind of place. `.` is the location passed to `new`, in the current section; any other symbol has the
+/// value of its last definition before the line, or else that of its definition in the map. Without either, a name refers to another object
+/// if the place allows that; otherwise the symbol is 0, flagged U.
 #[derive(Drop)]
 pub struct NamesAt<'a> {
     map: &'a Map<'a>,
@@ -40,7 +40,7 @@ impl<'a> Model for NamesAt<'a> {
 }
 
 impl<'a> NamesAt<'a> {
-    /// The symbols known after the lines of a table, under a map, where they are used at this kind of place; `.` is this location.
+    /// The symbols that a line may use at this kind of place, under a map and with the table of the lines before it; `.` is this location.
     pub fn new(map: &'a Map<'a>, context: Context, table: &'a Table, location: u16) -> NamesAt<'a>
         ensures { result ≡ asked map.now context table.now location }
     {
@@ -80,8 +80,8 @@ impl<'a> Names for NamesAt<'a> {
     }
 }
 
-/// The firm symbols of the preceding lines, on which sizes, locations, conditions and repeats depend. `.` is a location; any symbol that
-/// isn't firm counts as 0, flagged U.
+/// The firm symbols of the preceding lines, on which sizes, locations, conditions and repeats depend. `.` is the location passed to `new`,
+/// in the current section; any symbol that isn't firm counts as 0, flagged U.
 #[derive(Drop)]
 pub struct FirmNames<'a> {
     table: &'a Table,
@@ -139,7 +139,7 @@ fn counter_value(table: &Table, location: u16) -> Value
     }
 }
 
-// The value of a definition, or 0, flagged U, if it isn't known. The value is flagged D too if the key is doubly defined.
+// The value of a definition; if the value isn't known, 0, flagged U. Either is flagged D as well if the key is doubly defined.
 fn value_of(standing: Standing, is_doubly_defined: bool) -> Value
     ensures { quantity result ≡ quantity_of (flag_if is_doubly_defined flag_D) standing }
 {
@@ -154,8 +154,8 @@ fn value_of(standing: Standing, is_doubly_defined: bool) -> Value
     }
 }
 
-// The value of a symbol without a definition: a reference to another object, if it is a name and a reference is allowed; otherwise 0
-// with U.
+// The value of a symbol without a definition: a reference to another object, if the symbol is a name and a reference is allowed; otherwise
+// 0, flagged U.
 fn undefined(context: Context, symbol: Symbol) -> Value
     ensures { quantity result ≡ undefined context symbol }
 {
@@ -169,7 +169,7 @@ fn undefined(context: Context, symbol: Symbol) -> Value
     }
 }
 
-// The value of a definition that was found, flagged D if its key is doubly defined; another value if none was found.
+// The value of a definition that was found, flagged D if its key is doubly defined; `other` if none was found.
 fn given_or(found: Option<&Definition>, is_doubly_defined: bool, other: Value) -> Value
     ensures { quantity result ≡ given_by is_doubly_defined (quantity other) (option_copied found.entry) }
 {
@@ -180,7 +180,7 @@ fn given_or(found: Option<&Definition>, is_doubly_defined: bool, other: Value) -
 }
 
 // The value of a key by its last definition before the line, or else by its definition in the map, flagged D if the key is doubly defined
-// there; if there is neither, another value.
+// there; `other` if there is neither.
 // speed: inline, since this is called for each symbol of an expression, and a call would pass its result through memory.
 #[inline(always)]
 fn meaning_of(map: &Map<'_>, other: Value, table: &Table, key: &Key) -> Value
@@ -216,7 +216,7 @@ fn firm_meaning_of(table: &Table, key: &Key) -> Value
     }
 }
 
-/// R for a register where none is allowed.
+/// R for a register, in a place where no register is allowed; otherwise no flag.
 pub fn register_flags(kind: Kind) -> ErrorFlags
     ensures { bits_of result ≡ register_flags kind }
 {

@@ -8,7 +8,7 @@ use m11_base::Mode;
 pub enum WrittenOperand<E> {
     /// No operand.
     Absent,
-    /// `R` or `A`; names decide whether the expression is a register.
+    /// `R` or `A`; firm names decide whether the expression is a register.
     Plain(bool, E),
     /// `(R)`
     Pointed(bool, E),
@@ -33,6 +33,6 @@ pub enum Form<E> {
     Indexed(Mode, E, E),
     /// `@(R)`: the register. The word added to it is 0.
     Unindexed(E),
-    /// A mode of the program counter, and the expression of the word after the code word.
+    /// A mode of the program counter, and the expression for the word that the operand adds.
     AfterCounter(Mode, E),
 }

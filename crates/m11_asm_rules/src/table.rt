@@ -40,9 +40,9 @@ pub struct Table {
     doubly_defined_names: SeededSet<Name>,
     doubly_defined_symbols: SeededSet<(u64, u16)>,
     globals: SeededSet<Name>,
-    // The bits of the attributes of each section, by its name; sections are numbered in this order.
+    // The attribute bits of each section, by its name; sections are numbered in the order of these entries.
     sections: SeededMap<Name, u8>,
-    // By the numbers of sections: the location counters, and the greatest location that each counter had after a line.
+    // Indexed by section number: the location counters, and the greatest location that each counter had after a line.
     counters: ArrayVec<u16, 64>,
     sizes: ArrayVec<u16, 64>,
     modes: Modes,
@@ -247,7 +247,7 @@ impl Table {
         section.attributes & SectionFlags::RELOCATABLE.bits() != 0
     }
 
-    /// Whether a value belongs to the current section; in an ABS section every absolute number and every register does.
+    /// Whether a value of this kind belongs to the current section; in an ABS section every absolute number and every register does.
     pub fn is_here(&self, kind: Kind) -> bool
         ensures { result ≡ is_here self.now kind }
     {
@@ -501,7 +501,7 @@ impl Table {
         self.modes.block = self.modes.block.saturating_add(1);
     }
 
-    /// Sets the modes that are in force for the next line.
+    /// Sets the modes in force at the next line.
     pub fn set(&mut self, modes: Modes)
         ensures { self.new ≡ with_modes modes self.old }
     {

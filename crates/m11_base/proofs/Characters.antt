@@ -1,4 +1,4 @@
--- Characters and codes of RADIX-50 lead back to each other, and words to their three characters.
+-- Apart from the unused code, a code of RADIX-50 and its character determine each other, and so do a word and its three characters.
 use Rattle.std.proofs.Common.{◌≡◌, ◌≢◌, ℕ, zero, suc, ◌+◌, ◌-◌, ◌*◌, ◌/◌, ◌%◌, ◌<◌, ◌≤◌, Bool, true, false, cond, eqb, ltb, List, [], ◌∷◌, length, Option, Some, None, refl, sym, ap, subst, arith, inl, inr}
 use Rattle.std.specs.Prelude.{◌&&◌, ◌||◌, position, slice_index}
 use Rattle.std.proofs.lemmas.Bool.{cases_lt, eqb-true, and_parts, lt-ltb}
@@ -69,7 +69,7 @@ pub point_coded : code_of 46 ≡ Some 28
 unfolding alphabet code_of
 point_coded = refl
 
--- the codes of letters and of digits follow one another
+-- the codes of the letters are consecutive, and so are those of the digits
 letter_test : ℕ → Bool
 letter_test k = is_code (code_of (65 + k)) (k + 1)
 
@@ -94,7 +94,7 @@ digit_coded c low high =
     let same : 48 + k ≡ c = omega arith in
     subst (λ (x : ℕ). code_of x ≡ Some (k + 30)) same here
 
--- and no other character has one: each character of the alphabet but `%` is a blank, `$`, `.`, a letter or a digit
+-- no other character has a code: each character of the alphabet but `%` is a blank, `$`, `.`, a letter or a digit
 is_coded : ℕ → Bool
 is_coded c = eqb c 32 || eqb c 36 || eqb c 46 || (ltb 64 c && ltb c 91) || (ltb 47 c && ltb c 58)
 
@@ -126,7 +126,7 @@ others_uncoded c blank dollar point letter digit =
 
 -- ---- words
 
--- the three digits of a word in base 40
+-- a word made of three digits in base 40 has these digits
 digits_again : (x y z : ℕ) → x < 40 → y < 40 → z < 40
     → ((x * 1600 + y * 40 + z) / 1600 ≡ x) × ((x * 1600 + y * 40 + z) / 40 % 40 ≡ y)
     × ((x * 1600 + y * 40 + z) % 40 ≡ z)
@@ -140,7 +140,7 @@ three_items (a ∷ b ∷ []) e = absurd (omega arith)
 three_items (a ∷ b ∷ c ∷ []) e = refl
 three_items (a ∷ b ∷ c ∷ d ∷ rest) e = absurd (omega arith)
 
--- a packed word has the characters that it was packed from
+-- the word that packs three characters unpacks to these characters
 pub unpacked_again : (text : List ℕ) (x y z : ℕ) → length text ≡ 3 → code_of (slice_index text 0) ≡ Some x
     → code_of (slice_index text 1) ≡ Some y → code_of (slice_index text 2) ≡ Some z
     → unpacked (x * 1600 + y * 40 + z) ≡ Some text
@@ -161,7 +161,7 @@ packed_same word lt plain =
     let sum : word / 1600 * 1600 + word / 40 % 40 * 40 + word % 40 ≡ word = omega arith in
     rw (a, b, c) (ap (λ (w : ℕ). Some w) sum)
 
--- the codes of a word's characters have that word
+-- the three characters of a word pack to that word, unless one of them is `%`
 pub packed_again : (word a b c : ℕ) → word < word_limit → a ≡ character_of (word / 1600)
     → b ≡ character_of (word / 40 % 40) → c ≡ character_of (word % 40) → HasNoPercent (a ∷ b ∷ c ∷ [])
     → packed_at (a ∷ b ∷ c ∷ []) 0 ≡ Some word

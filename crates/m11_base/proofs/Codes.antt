@@ -102,7 +102,8 @@ operand_again o =
 upper : (n s d : ℕ) → s < 64 → d < 64 → (n * 0o10000 + s * 0o100 + d) / 0o100 % 0o100 ≡ s
 upper n s d h k = omega arith
 
--- a register, after a multiple of 01000
+-- in the sum of a multiple of octal 1000, a register's number times octal 100, and six bits, the third octal digit from the right is that
+-- number
 upper_three : (n r d : ℕ) → r < 8 → d < 64 → (n * 0o1000 + r * 0o100 + d) / 0o100 % 0o10 ≡ r
 upper_three n r d h k = omega arith
 
@@ -153,7 +154,7 @@ extended_found n fields h k =
     digits : (n fields : ℕ) → n < 8 → fields < 0o1000 → (0o070000 + n * 0o1000 + fields) / 0o1000 % 0o10 ≡ n
     digits n fields h k = omega arith
 
--- one of four
+-- a property of 0, 1, 2 and 3 holds of each number below 4
 one_of_four : (P : ℕ → Type 0) → P 0 → P 1 → P 2 → P 3 → (q : ℕ) → q < 4 → P q
 one_of_four P a b c d zero h = a
 one_of_four P a b c d (suc zero) h = b
@@ -442,7 +443,7 @@ apart n r d = omega arith
 nine_bits : (r : Register) (d : ℕ) → d < 64 → register_number r * 0o100 + d < 0o1000
 nine_bits r d h = omega (arith, register_below r)
 
--- the registers' bits and the operand's, of a word whose other bits are a multiple of 01000
+-- the register and the operand in a word whose other bits are a multiple of octal 1000
 module _ (n : ℕ) (r : Register) where
   register_in : (d : ℕ) → d < 64 → register_of ((n * 0o1000 + register_number r * 0o100 + d) / 0o100 % 0o10) ≡ r
   register_in d h = ap register_of (upper_three n (register_number r) d (register_below r) h) ∙ register_again r
@@ -539,7 +540,7 @@ rts_again Pc = refl
 
 -- ---- numbers
 
--- four entries of a table
+-- if four consecutive entries of a table are the same, each of them is this entry
 low_entries : (n : ℕ) (o : Option Op) → ((w : ℕ) → with_next_digits (n + 0) w ≡ o) → ((w : ℕ) → with_next_digits (n + 1) w ≡ o)
     → ((w : ℕ) → with_next_digits (n + 2) w ≡ o) → ((w : ℕ) → with_next_digits (n + 3) w ≡ o) → (q : ℕ) → q < 4 → (w : ℕ) → with_next_digits (n + q) w ≡ o
 low_entries n o = one_of_four (λ q. (w : ℕ) → with_next_digits (n + q) w ≡ o)
@@ -672,7 +673,7 @@ branch_again o z h =
 
 -- ---- all forms
 
--- what the types hold, and that the tables have no operation for a reserved code
+-- the fields are in the ranges of their types, and the tables have no operation for a reserved code
 abbrev pub IsSound : Insn → Type 0
 IsSound (insn.Branch o z) = FitsSigned w8 z
 IsSound (insn.Reserved code) = operation_by_tables code ≡ None

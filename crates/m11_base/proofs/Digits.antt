@@ -1,4 +1,4 @@
--- What octal digits spell, one digit after the other.
+-- The number that octal digits spell, digit by digit.
 use Rattle.std.proofs.Common.{◌≡◌, ℕ, zero, suc, ◌+◌, ◌-◌, ◌*◌, ◌^◌, ◌<◌, ◌≤◌, List, [], ◌∷◌, ◌++◌, length, take, drop, get_or, true, false, not, ◌&&◌, ◌||◌, refl, sym, ap, ◌∙◌, arith}
 use Rattle.std.proofs.lemmas.List.{length-append, take_more, take-append-drop}
 use Rattle.std.proofs.lemmas.Nat.{pow-add}
@@ -17,7 +17,7 @@ octal_value-append (digit ∷ front) back =
     rw (length-append front back, pow-add 8 (length front) (length back), octal_value-append front back)
     (regroup (digit - 48) (8 ^ length front) (8 ^ length back) (octal_value front) (octal_value back))
 
--- one more digit after
+-- with one more digit, the number is eight times what the digits before it spell, plus the digit's value
 pub octal_value-push : (digits : List ℕ) (i : ℕ) → i < length digits
     → octal_value (take (i + 1) digits) ≡ octal_value (take i digits) * 8 + (get_or digits i 0 - 48)
 octal_value-push digits i lt =
@@ -27,7 +27,7 @@ power_is_positive : (n : ℕ) → 0 < 8 ^ n
 power_is_positive zero = omega arith
 power_is_positive (suc n) = let before = power_is_positive n in omega arith
 
--- the first digits spell no more than all of them
+-- the first digits spell no greater number than all digits
 pub octal_value-take : (digits : List ℕ) (i : ℕ) → octal_value (take i digits) ≤ octal_value digits
 octal_value-take digits i =
     let parts = ap octal_value (sym (take-append-drop i digits)) ∙ octal_value-append (take i digits) (drop i digits) in

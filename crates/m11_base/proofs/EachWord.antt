@@ -1,4 +1,4 @@
--- What holds for each of the 65,536 words, proved by looking at each. That takes long, so nothing else is here.
+-- Facts about each of the 65,536 words, proved by testing every word. That takes long, so this file proves nothing else.
 use Rattle.std.proofs.Common.{◌≡◌, ℕ, zero, suc, ◌+◌, ◌^◌, ◌<◌, ◌≤◌, Bool, true, eqb, inl, inr, refl, ap, subst, ◌∙◌, arith}
 use Rattle.std.specs.Prelude.{◌&&◌, is_none, Option, Some, None}
 use Rattle.std.proofs.lemmas.Bool.{and_parts, cases_lt, eqb-true, false≢true}
@@ -18,7 +18,7 @@ check_found (Some row) word =
 check : ℕ → Bool
 check word = check_found (row_of word) word
 
--- all words of a block of a power of two
+-- all words of a block pass the test; the block has 2 ^ depth words and begins at `start`
 all_in : ℕ → ℕ → Bool
 all_in zero start = check start
 all_in (suc depth) start = all_in depth start && all_in depth (start + 2 ^ depth)
@@ -104,7 +104,7 @@ all_words =
     (joined 13 0o140000 (joined 12 0o140000 (block-12) (block-13))
     (joined 12 0o160000 (block-14) (block-15))))
 
--- any word of a block whose words were looked at
+-- if all words of a block pass the test, each word of the block does
 found_in : (depth start : ℕ) → all_in depth start ≡ true → (word : ℕ) → start ≤ word → word < start + 2 ^ depth
     → check word ≡ true
 unfolding all_in

@@ -1,10 +1,10 @@
--- Feeds read one after another, as far as a loop over them has come.
+-- Feeds that a loop reads one after another, and what is true when it has read some of them.
 use Rattle.std.proofs.Common.{◌≡◌, ℕ, zero, suc, ◌+◌, ◌<◌, ◌≤◌, List, [], ◌∷◌, ◌++◌, length, get_or, set, Option, Some, None, refl, sym, ap, ◌∙◌, append_assoc, arith}
 use Rattle.std.proofs.lemmas.List.{length-append, append-nil}
 use Rattle.m11_base.specs.Devices.{Rises}
 use Rattle.m11_base.specs.Feed.{Text, HasBytes, BeginsWith, GiveAll, NoneFailed, OneFailed}
 
--- the feeds done, as they were and as they are, with what they gave, and those left
+-- the feeds that a loop has read, before and after it read them, with their texts; and the feeds left
 pub record SoFar {F : Type 0} (text : F → Option Text) (faults : F → ℕ) (initial now : List F) (index : ℕ)
     (sources : List (List ℕ)) : Type 0 where
   pub done : List F
@@ -17,7 +17,7 @@ pub record SoFar {F : Type 0} (text : F → Option Text) (faults : F → ℕ) (i
   pub given : GiveAll text done sources
   pub unfailed : NoneFailed faults done done_now
 
--- the index of an element in a list of two parts
+-- if an index is the length of the first part of a list and inside the list, the second part has a first element
 split_part : {F : Type 0} (done left : List F) (i : ℕ) → length done ≡ i → i < length (done ++ left)
     → (x : F) × (rest : List F) × (left ≡ x ∷ rest)
 split_part [] [] i e h = absurd (omega arith)
@@ -112,7 +112,7 @@ module _ {F : Type 0} (text : F → Option Text) (faults : F → ℕ) where
         move_given initial s.done sources initial-is s.given,
       )
 
-  -- one more feed, at the index that the loop has reached
+  -- the loop reads one more feed, the one at the index that it has reached
   module _ (initial now : List F) (index : ℕ) (sources : List (List ℕ))
       (s : SoFar text faults initial now index sources)
       (inside : index < length now) (d x z : F) (x-is : x ≡ get_or now index d) where
@@ -134,13 +134,13 @@ module _ {F : Type 0} (text : F → Option Text) (faults : F → ℕ) where
     new_here = ap (λ (t : List F). set t index z) now_here
         ∙ ap (λ i. set (s.done_now ++ part.0 ∷ part.1) i z) (sym s.index_now) ∙ set_part s.done_now part.1 part.0 z
 
-    -- it has not failed
+    -- if this feed hasn't failed, no feed has
     pub none_failed : faults z ≡ faults x → NoneFailed faults initial (set now index z)
     none_failed same =
         move_none initial (s.done ++ x ∷ part.1) (set now index z) (s.done_now ++ z ∷ part.1) initial_here new_here
         (none_after s.done s.done_now (x ∷ part.1) (z ∷ part.1) s.unfailed (same, none_same part.1))
 
-    -- it failed
+    -- if this feed failed, it is the only one that has
     pub failed_here : (beginning : List ℕ) → BeginsWith (text x) beginning → Rises (faults x) (faults z)
         → OneFailed text faults initial (set now index z) sources beginning
     failed_here beginning begins rises =
@@ -149,7 +149,7 @@ module _ {F : Type 0} (text : F → Option Text) (faults : F → ℕ) where
         (one_failed s.done s.done_now sources x z part.1 beginning s.given s.unfailed begins rises)
 
     module _ (source : List ℕ) (has : HasBytes (text x) source) where
-      -- with what the feeds after it would give
+      -- the texts read so far, the text of this feed and those of the feeds after it are the texts of all feeds
       pub given_more : (others : List (List ℕ)) × GiveAll text initial (sources ++ source ∷ others)
       given_more =
           let others = any_sources part.1 in (
@@ -158,7 +158,7 @@ module _ {F : Type 0} (text : F → Option Text) (faults : F → ℕ) where
                 (give_after s.done sources (x ∷ part.1) (source ∷ others.0) s.given (has, others.1)),
           )
 
-      -- it was read
+      -- if this feed was read and hasn't failed, the loop has read one feed more
       pub read_more : faults z ≡ faults x
           → SoFar text faults initial (set now index z) (index + 1) (sources ++ source ∷ [])
       read_more same = record {

@@ -19,7 +19,7 @@ front_taken false (Some rest) new (b ∷ bs) byte e drops =
     subst (λ n. Consumes (Some (b ∷ (bs ++ rest))) n (byte ∷ [])) (sym (drops (omega arith)))
     (ap (λ o. unwrap_or o 0 ∷ (bs ++ rest)) e)
 
--- what the buffer shows is a beginning of what is left
+-- any first bytes in the buffer are the first bytes still to come from the reader, if these are known
 pub front_begins : (is_bare : Bool) (inner : Option (List ℕ)) (shown : List ℕ) (n : ℕ)
     → BeginsWith (text_of_reader (if is_bare then None else prepend_known shown inner)) (take n shown)
 front_begins true inner shown n = tt
@@ -39,7 +39,7 @@ passed false (Some rest) new shown count h drops = (
   ap text_of_reader (drops h),
 )
 
--- what is consumed from the buffer was returned
+-- if bytes are consumed from the front of the buffer, they were the next bytes of the reader
 pub front_passed : (is_bare : Bool) (inner new : Option (List ℕ)) (shown : List ℕ) (most faults count : ℕ)
     → count ≤ length (ready_within most faults shown)
     → DropsConsumable (if is_bare then None else prepend_known shown inner) new (Some (length shown)) count

@@ -1,4 +1,4 @@
--- What comes through a fuse is what its feed gives.
+-- The bytes that come through a fuse are those of the feed behind it, until the fuse blows.
 use Rattle.std.proofs.Common.{◌≡◌, ◌≢◌, ℕ, zero, suc, ◌+◌, ◌-◌, ◌<◌, ◌≤◌, List, [], ◌∷◌, ◌++◌, length, take, drop, length-append, Option, Some, None, Result, Ok, Err, refl, sym, ap, subst, ◌∙◌, arith, inl, inr, sub-one}
 use Rattle.std.proofs.lemmas.Bool.{cases_lt, le-ltb, lt-ltb}
 use Rattle.std.proofs.lemmas.List.{length-take}
@@ -153,7 +153,7 @@ bytes_passed : (calls : ℕ) (xs : List ℕ) (old new : Option Text) → length 
 bytes_passed calls xs None new h given = tt
 bytes_passed calls xs (Some t) new h given = known_passed calls xs t.bytes t.ending new h given
 
--- ready bytes that are passed use up as many calls
+-- if ready bytes are consumed through a fuse, they are the next bytes of its text, and use up as many calls as there are bytes
 pub passes_through_fuse : (calls faults count : ℕ) (old new : Option Text) (inner : List ℕ)
     → count ≤ length (ready_within calls faults inner) → GivesBytes old new (take count inner)
     → GivesBytes (text_through_fuse calls old) (text_through_fuse (calls - count) new)
@@ -176,7 +176,8 @@ known_begins calls bytes xs rest MayFail h front = tt
 known_begins calls bytes xs rest Ends h front = begins_of calls bytes xs rest Fails MayFail h front
 known_begins calls bytes xs rest Fails h front = begins_of calls bytes xs rest Fails Fails h front
 
--- what is ready through a fuse is a beginning of what comes through it
+-- if bytes are the first of a feed's text, then as many of them as the fuse has calls left, or fewer, are the first of the text through the
+-- fuse
 pub begins_through_fuse : (calls count : ℕ) (old : Option Text) (inner : List ℕ) → count ≤ calls
     → BeginsWith old inner → BeginsWith (text_through_fuse calls old) (take count inner)
 begins_through_fuse calls count None inner h begins = tt

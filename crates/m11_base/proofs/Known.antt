@@ -1,4 +1,4 @@
--- Steps that leave known bytes as they were may come before any other step.
+-- A step that leaves known bytes as they were changes nothing for the step after it; two steps that add bytes are one that adds both.
 use Rattle.std.proofs.Common.{◌≡◌, ℕ, List, ◌++◌, Option, Some, None, take, drop, ap, ◌∙◌, sym, append_assoc, zero, suc, refl}
 use Rattle.std.proofs.lemmas.List.{take-append-drop}
 use Rattle.m11_base.specs.Sink.{CountsAt}
@@ -29,7 +29,7 @@ Appends-Appends (Some x) None c bs cs h k = absurd h
 Appends-Appends (Some x) (Some y) None bs cs h k = absurd k
 Appends-Appends (Some x) (Some y) (Some z) bs cs h k = k ∙ ap (λ (t : List ℕ). t ++ cs) h ∙ append_assoc x bs cs
 
--- a beginning of the bytes is taken, and then more of them from the front of those that are left
+-- if a prefix of the bytes was added, and then bytes from the front of the rest, a longer prefix was added
 pub takes_more : (a b c : Option (List ℕ)) (bytes done rest left : List ℕ) (count : ℕ) → bytes ≡ done ++ rest
     → left ≡ drop count rest
     → Appends a b done → Appends b c (take count rest) → (x : List ℕ) × (bytes ≡ x ++ left) × Appends a c x
@@ -42,7 +42,7 @@ takes_more a b c bytes done rest left count whole left-is first second =
       Appends-Appends a b c done (take count rest) first second,
     )
 
--- a put that accepted something isn't counted as a failure
+-- a `put` that accepted some bytes isn't counted as a failure
 pub taken_uncounted : (old new taken most : ℕ) → (taken ≡ 0 → ⊥) → CountsAt old new taken most → new ≡ old
 taken_uncounted old new zero most some h = absurd (some refl)
 taken_uncounted old new (suc taken) most some h = h

@@ -19,7 +19,7 @@ not_all (byte ∷ bytes) last e =
     let P : Bool → Type 0 = λ b. (is_blank byte && b) ≡ false in
     subst P (sym (not_all bytes last e)) (and-false (is_blank byte))
 
--- one blank fewer at the end
+-- without its last blanks, a text with one more blank at its end is the same
 pub blank_removed : (bytes : List ℕ) → without_last_blanks (bytes ++ 32 ∷ []) ≡ without_last_blanks bytes
 unfolding without_last_blanks
 blank_removed [] = refl

@@ -1,4 +1,4 @@
--- The words of names that have some.
+-- The two words of the name `. ABS.`; and a name that has words isn't None.
 use Rattle.std.proofs.Common.{◌≡◌, ℕ, Option, Some, None, refl}
 use Rattle.std.specs.Prelude.{codes}
 use Rattle.m11_base.specs.Rad50.{name_of, code_of, alphabet}

@@ -4,12 +4,12 @@ use Rattle.std.proofs.lemmas.List.{take-append-drop, take-take, length-take}
 use Rattle.m11_base.specs.Devices.{last_count}
 use Rattle.m11_base.specs.Feed.{ready_within}
 
--- bytes are those in front and the others, and what follows them stays
+-- a text is its first n bytes, then its other bytes, and then what follows it
 pub front_and_rest : (n : ℕ) (xs rest : List ℕ) → xs ++ rest ≡ take n xs ++ (drop n xs ++ rest)
 front_and_rest n xs rest =
     ap (λ (t : List ℕ). t ++ rest) (sym (take-append-drop n xs)) ∙ append_assoc (take n xs) (drop n xs) rest
 
--- n of the ready bytes are the first of those that are there
+-- the first `count` ready bytes are the first `count` of these bytes; there are that many of both, and `most` allows that many
 pub record IsFront (most count : ℕ) (ready bytes : List ℕ) : Type 0 where
   pub same : take count ready ≡ take count bytes
   pub there : count ≤ length bytes

@@ -1,4 +1,4 @@
--- Two names are equal if the test says so.
+-- Two names are equal if and only if `is_same_name` says so.
 use Rattle.std.proofs.Common.{◌≡◌, ℕ, ◌==◌, ◌&&◌, Bool, true, sym, ap, ◌∙◌, subst, refl}
 use Rattle.std.proofs.lemmas.Bool.{and_parts, eq-eqb, eqb-true}
 use Rattle.m11_base.specs.Rad50.{Name, is_same_name}

@@ -1,4 +1,4 @@
--- What words mean by the tables and by the list, and codes and instructions there and back.
+-- The tables and the list give each word the same meaning; a code and its instruction determine each other.
 use Rattle.std.proofs.Common.{◌≡◌, ℕ, ◌%◌, ◌<◌, true, refl, sym, ap, ◌∙◌, arith}
 use Rattle.std.specs.Prelude.{Bool, ◌↔◌, IsTrue, is_none, Option, Some, None}
 use Rattle.std.proofs.lemmas.Bool.{false≢true}
@@ -15,7 +15,7 @@ use Rattle.m11_base.proofs.Codes.{IsSound, again, code_below}
 use Rattle.m11_base.specs.OperationTables.{operation_by_tables}
 use Rattle.m11_base.proofs.EachWord.{IsChecked, row_checked}
 
--- the fields of a word are those that types hold
+-- the fields of a word are in the ranges of their types
 fields_sound : (o : Op) (word : ℕ) → IsSound (with_fields o word)
 fields_sound (op.Double o s) word = tt
 fields_sound (op.Extended o) word = tt
@@ -35,7 +35,7 @@ fields_sound op.Call word = tt
 fields_sound op.Return word = tt
 fields_sound (op.Codes o codes) word = tt
 
--- the tables give what the list says
+-- the tables give each word the meaning that the list gives it
 pub tables_meaning : (word : ℕ) → word < 65536 → meaning (operation_by_tables word) word ≡ instruction_of word
 tables_meaning word h = by_row (row_of word) (row_checked word h)
   where
@@ -46,7 +46,7 @@ tables_meaning word h = by_row (row_of word) (row_checked word h)
         let i = with_fields row.operation word in
         ap (λ (w : ℕ). meaning (operation_by_tables w) w) (sym e.0) ∙ again i e.1 (fields_sound row.operation word)
 
--- ---- codes and instructions, there and back
+-- ---- a code and its instruction determine each other
 
 pub code_again : (word : ℕ) → word < 65536 → code_of (instruction_of word) ≡ word
 code_again word h = by_row (row_of word) (row_checked word h)

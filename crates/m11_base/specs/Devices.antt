@@ -2,11 +2,11 @@
 -- may fail at a call. It counts the calls that failed, and a contract blames a device only if that count rises.
 use Rattle.std.specs.Prelude.{◌≡◌, ℕ, ◌+◌, ◌-◌, ◌^◌, min, List}
 
--- bytes as numbers; the type doesn't keep them below 256
+-- bytes as numbers; the type doesn't restrict them to numbers below 256
 abbrev pub Bytes : Type 0
 Bytes = List ℕ
 
--- the greatest number that a count of failures reaches
+-- the greatest value that a count of failures can have
 abbrev pub last_count : ℕ
 last_count = 2 ^ 64 - 1
 

@@ -1,5 +1,5 @@
--- The codes of instructions: an operation's bits with its fields at their positions; and which instructions fit, so that they
--- have a code. (PDP-11/40 Processor Handbook, "Instruction set".)
+-- The codes of instructions: an operation's bits, with the instruction's fields at their positions; and which instructions fit, and so have
+-- a code. (PDP-11/40 Processor Handbook, "Instruction set".)
 use Rattle.std.specs.Prelude.{ℕ, ◌+◌, ◌*◌, ◌<◌, Bool, true, false, nat_lt, is_none, FitsSigned, ⊤}
 use Rattle.std.specs.Int.{cast_unsigned, from_bool, w8}
 use Rattle.m11_base.specs.declared.instruction.DoubleOp.{DoubleOp}
@@ -99,12 +99,12 @@ branch_value Bvs = 0o102400
 branch_value Bcc = 0o103000
 branch_value Bcs = 0o103400
 
--- operations on bytes have the highest bit set as well
+-- the bits that the size adds to the code of an operation: none for words, and the highest bit for bytes
 abbrev pub size_value : Size → ℕ
 size_value Word = 0
 size_value Byte = 0o100000
 
--- the low four bits of an operation on condition codes: N is octal 10, Z 4, V 2, C 1
+-- the low four bits of a code that clears or sets these condition codes: N is octal 10, Z 4, V 2, C 1
 abbrev pub condition_bits : ConditionCodes → ℕ
 condition_bits codes =
     from_bool codes.negative * 0o10 + from_bool codes.zero * 0o4 + from_bool codes.overflow * 0o2
@@ -128,7 +128,7 @@ code_of (insn.Condition operation codes) = condition_value operation + condition
 code_of (insn.Branch operation offset) = branch_value operation + cast_unsigned w8 offset
 code_of (insn.Reserved word) = word
 
--- ---- what fits: an operation that the list has in this size, with fields that fit their bits; or a reserved code
+-- ---- what fits: an operation that the list has in its size, with fields that fit their bits; or a word that matches no row of the list
 
 abbrev pub has_double : DoubleOp → Size → Bool
 has_double Add Byte = false
@@ -141,7 +141,7 @@ has_single Swab Byte = false
 has_single Sxt Byte = false
 has_single _ _ = true
 
--- the limit below which the number in an operation's code lies
+-- the exclusive upper limit of the number in an operation's code
 abbrev pub number_limit : NumberOp → ℕ
 number_limit Mark = 0o100
 number_limit Emt = 0o400
@@ -155,7 +155,7 @@ fits (insn.Number operation number) = nat_lt number (number_limit operation)
 fits (insn.Reserved word) = is_none (row_of word)
 fits _ = true
 
--- the ranges that the types of an instruction's fields guarantee
+-- the offset of a branch and the word of a reserved code are in the ranges of their types; this says nothing about other instructions
 abbrev pub IsHeld : Insn → Type 0
 IsHeld (insn.Branch operation offset) = FitsSigned w8 offset
 IsHeld (insn.Reserved word) = word < 0o200000

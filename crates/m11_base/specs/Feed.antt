@@ -4,7 +4,7 @@ use Rattle.std.specs.Prelude.{◌≡◌, ◌≢◌, ℕ, List, [], ◌∷◌, �
 use Rattle.std.specs.Io.KnownBytes.{Consumes, IsAtEnd, Keeps}
 use Rattle.m11_base.specs.Devices.{Bytes, Rises, last_count}
 
--- how a text ends: with its end; with a failure in place of the end; or with its end, though any call may fail
+-- how a text ends: with the end, and no call fails; with a failure in place of the end; or with the end, though any call may fail
 pub data Ending : Type 0 where
   Ends : Ending
   Fails : Ending
@@ -25,20 +25,20 @@ MayFailBefore bytes Ends = ⊥
 MayFailBefore bytes Fails = bytes ≡ []
 MayFailBefore bytes MayFail = ⊤
 
--- the next byte of the text was read; this says nothing about an unknown text
+-- this byte, the next one of the text, was read; this says nothing about an unknown text
 abbrev pub GivesByte : Option Text → Option Text → ℕ → Type 0
 GivesByte None new byte = ⊤
 GivesByte (Some t) new byte =
     (rest : Bytes) × (t.bytes ≡ byte ∷ rest) × (new ≡ Some (record { bytes = rest; ending = t.ending }))
 
--- these bytes of the text were read; this says nothing about an unknown text
+-- these bytes, the next ones of the text, were read; this says nothing about an unknown text
 abbrev pub GivesBytes : Option Text → Option Text → Bytes → Type 0
 GivesBytes None new bytes = ⊤
 GivesBytes (Some t) new bytes =
     (rest : Bytes) × (t.bytes ≡ bytes ++ rest) × (new ≡ Some (record { bytes = rest; ending = t.ending }))
 
--- of the bytes available without a read, those that a feed shows as ready: at most this many from the front, and none once
--- the count of failures is at its last value
+-- the bytes that a feed shows as ready, of those available without a read: at most this many from the front, and none once the count of
+-- failures is at its greatest value
 abbrev pub ready_within : ℕ → ℕ → Bytes → Bytes
 ready_within most count bytes = if count == last_count then [] else take most bytes
 
@@ -47,26 +47,26 @@ abbrev pub GivesEnd : Option Text → Option Text → Type 0
 GivesEnd None new = ⊤
 GivesEnd (Some t) new = MayEnd t × (new ≡ Some t)
 
--- a failure was returned: no byte was read, and either the text may fail here or the count of failures was at its last value; this
+-- a failure was returned: no byte was read, and either the text may fail here or the count of failures was at its greatest value; this
 -- says nothing about an unknown text
 abbrev pub GivesFailure : Option Text → Option Text → ℕ → Type 0
 GivesFailure None new count = ⊤
 GivesFailure (Some t) new count =
     (MayFailBefore t.bytes t.ending ⊎ (count ≡ last_count)) × (new ≡ Some t)
 
--- one call of a feed, in terms of its text before and after the call, its count of failures before, and the result
+-- what one call of a feed returned agrees with the feed's text before and after the call, and with its count of failures before the call
 abbrev pub Gives : {E : Type 0} → Option Text → Option Text → ℕ → Result (Option ℕ) E → Type 0
 Gives old new count result = MatchResult result
     (λ byte. MatchOption byte (GivesEnd old new) (GivesByte old new))
     (λ _. GivesFailure old new count)
 
--- a read of one byte from a reader: the byte, the end of the reader, or a failure that leaves the reader as it was
+-- a read from a reader consumed one byte, found the end of its bytes, or failed and left the reader as it was
 abbrev pub ReadsByte : {E : Type 0} → Option Bytes → Option Bytes → Result (Option ℕ) E → Type 0
 ReadsByte old new result = MatchResult result
     (λ byte. MatchOption byte (Consumes old new [] × OnSome old (IsAtEnd new)) (λ b. Consumes old new (b ∷ [])))
     (λ _. Keeps old new)
 
--- the text of a reader, if its bytes are known: each read may fail
+-- the text of a reader, if its bytes are known; each read of them may fail
 abbrev pub text_of_reader : Option Bytes → Option Text
 text_of_reader known = option_map (λ bytes. record { bytes = bytes; ending = MayFail }) known
 
@@ -85,7 +85,7 @@ known_through_fuse calls bytes Ends = Some (bytes_through_fuse calls bytes Fails
 known_through_fuse calls bytes Fails = Some (bytes_through_fuse calls bytes Fails Fails)
 known_through_fuse calls bytes MayFail = None
 
--- the text of a feed through a fuse of this many calls, if it can be known; unknown if the feed's own is
+-- the text of a feed through a fuse of this many calls, if it can be known; unknown if the feed's own text is
 abbrev pub text_through_fuse : ℕ → Option Text → Option Text
 text_through_fuse calls known = option_and_then (λ t. known_through_fuse calls t.bytes t.ending) known
 
@@ -115,8 +115,8 @@ NoneFailed faults [] (new ∷ news) = ⊥
 NoneFailed faults (old ∷ olds) [] = ⊥
 NoneFailed faults (old ∷ olds) (new ∷ news) = (faults new ≡ faults old) × NoneFailed faults olds news
 
--- one feed failed after this prefix of its text, and its count of failures rose; the lists of bytes are the texts of the feeds
--- before it, where these are known; there are as many feeds as before, and no other count of failures changed
+-- One feed failed after this prefix of its text, and its count of failures rose. The lists of bytes are the texts of the feeds before it,
+-- where these are known. There are as many feeds as before, and no other count of failures changed.
 abbrev pub OneFailed : {F : Type 0} → (F → Option Text) → (F → ℕ) → List F → List F → List Bytes → Bytes → Type 0
 OneFailed text faults [] news sources beginning = ⊥
 OneFailed text faults (old ∷ olds) [] sources beginning = ⊥

@@ -146,9 +146,9 @@ number_in Mark word = word % 0o100
 number_in Emt word = word % 0o400
 number_in Trap word = word % 0o400
 
--- the instruction of an operation, with its fields as they are in the word: three bits for a register, six for an operand or the
--- count of SOB, four for condition codes, eight for the signed offset of a branch; for a number, those of `number_in`; CALL and
--- RETURN have the register PC, and a name such as CLC has condition codes of its own
+-- The instruction of an operation, with the fields of the word: three bits for a register, six for an operand or the count of SOB, four for
+-- condition codes, eight for the signed offset of a branch, and those of `number_in` for a number. CALL and RETURN have the register PC,
+-- and a name such as CLC has condition codes of its own.
 abbrev pub with_fields : Op → ℕ → Insn
 with_fields (op.Double operation size) word =
     insn.Double operation size (operand_of (word / 0o100 % 0o100)) (operand_of (word % 0o100))
@@ -193,10 +193,10 @@ instruction_of word = meaning (operation_of word) word
 abbrev pub HasOneMeaning : ℕ → Type 0
 HasOneMeaning word = count_by (is_of word) rows ≤ 1
 
--- a word of 16 bits is the code of an instruction if it means that instruction
+-- the word has 16 bits and means this instruction
 abbrev pub IsCodeOf : Insn → ℕ → Type 0
 IsCodeOf instruction word = (word < 0o200000) × (instruction_of word ≡ instruction)
 
--- an instruction has a code if some word is its code
+-- some word is the code of this instruction
 abbrev pub HasCode : Insn → Type 0
 HasCode instruction = (word : ℕ) × IsCodeOf instruction word

@@ -4,7 +4,7 @@ use Rattle.std.specs.Prelude.{codes, unwrap_or}
 use Rattle.m11_base.specs.Devices.{Bytes}
 use Rattle.m11_base.specs.Rad50.{Name, name_of}
 
--- the name with these six characters; six blanks if one of them has no code
+-- the name with these six characters; the name of six blanks if a character has no code
 abbrev pub name_in_words : Bytes → Name
 name_in_words text = unwrap_or (name_of text) (0, 0)
 
@@ -12,6 +12,6 @@ name_in_words text = unwrap_or (name_of text) (0, 0)
 abbrev pub absolute_name : Name
 absolute_name = name_in_words (codes ". ABS.")
 
--- the name of the section in which assembly begins, and of a linked module whose object gives no name: six blanks
+-- six blanks: the name of the section in which assembly begins, and of a linked module if its object file gives it no name
 abbrev pub blank_name : Name
 blank_name = (0, 0)

@@ -1,11 +1,11 @@
--- Words as octal digits, and back. (MACRO-11 Language Reference Manual, "Numbers", for the digits; two things are this project's
--- own: that a text may have any number of leading zeros, and the faults with their order.)
+-- Words as octal digits, and the words that octal digits spell. (MACRO-11 Language Reference Manual, "Numbers", for the digits; two things
+-- are this project's own: that a text may have any number of leading zeros, and the faults with their order.)
 use Rattle.std.specs.Prelude.{ℕ, ◌+◌, ◌-◌, ◌*◌, ◌/◌, ◌%◌, ◌^◌, List, [], ◌∷◌, length, map, codes, Bool, ◌&&◌, not, IsTrue, nat_le, nat_lt, if◌then◌else◌, Result, Ok, Err}
 use Rattle.std.specs.List.{list_all, list_any}
 use Rattle.m11_base.specs.declared.fault.OctalFault.{OctalFault}
 use Rattle.m11_base.specs.declared.fault.OctalFault.TheVariants.{Empty, BadDigit, TooLarge}
 
--- a character from `0` to `7`
+-- the character is a digit from `0` to `7`
 abbrev pub is_octal_digit : ℕ → Bool
 is_octal_digit character = nat_le 0o60 character && nat_le character 0o67
 
@@ -17,7 +17,7 @@ HasOnlyDigits text = IsTrue (list_all is_octal_digit text)
 abbrev pub HasBadDigit : List ℕ → Type 0
 HasBadDigit text = IsTrue (list_any (λ character. not (is_octal_digit character)) text)
 
--- the number that octal digits spell: each digit counts its value times 8 to the power of the number of digits after it
+-- the number that octal digits spell: each digit counts for its value times 8 to the power of the number of digits after it
 abbrev pub octal_value : List ℕ → ℕ
 octal_value [] = 0
 octal_value (digit ∷ digits) = (digit - 0o60) * 8 ^ length digits + octal_value digits
@@ -26,7 +26,7 @@ octal_value (digit ∷ digits) = (digit - 0o60) * 8 ^ length digits + octal_valu
 abbrev pub word_of_number : ℕ → Result ℕ OctalFault
 word_of_number number = if nat_lt number 0o200000 then Ok number else Err TooLarge
 
--- the word that a text spells, or the first fault in the order of their numbers
+-- the word that a text spells, or the lowest-numbered fault that applies
 abbrev pub octal_of : List ℕ → Result ℕ OctalFault
 octal_of [] = Err Empty
 octal_of (first ∷ rest) =
@@ -41,7 +41,7 @@ octal_digit word index = 0o60 + word / 8 ^ index % 8
 abbrev pub octal_text : ℕ → List ℕ
 octal_text word = map (octal_digit word) (5 ∷ 4 ∷ 3 ∷ 2 ∷ 1 ∷ 0 ∷ [])
 
--- the number that a fault is reported by
+-- the number by which a fault is reported
 abbrev pub fault_number : OctalFault → ℕ
 fault_number Empty = 1
 fault_number BadDigit = 2

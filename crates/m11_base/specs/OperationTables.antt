@@ -1,4 +1,4 @@
--- The contents of the tables over octal digits: the operation of a code, digit by digit. (PDP-11/40 Processor Handbook,
+-- The contents of the tables from the octal digits of a code to its operation. (PDP-11/40 Processor Handbook,
 -- "Instruction set".)
 use Rattle.std.specs.Prelude.{ℕ, ◌/◌, ◌%◌, ◌==◌, if◌then◌else◌, List, [], ◌∷◌, Option, Some, None, slice_index_or}
 use Rattle.m11_base.specs.declared.instruction.DoubleOp.TheVariants.{Mov, Cmp, Bit, Bic, Bis, Add, Sub}
@@ -73,14 +73,14 @@ high =
     None ∷ None ∷ None ∷ None ∷
     None ∷ None ∷ None ∷ None ∷ []
 
--- the operation of a word 00xxxx with these digits after the first two, if there is one
+-- the operation of a word 00xxxx whose third and fourth octal digits are these, if there is one
 abbrev pub with_next_digits : ℕ → ℕ → Option Op
 with_next_digits digits word =
     if digits == 0o00 then slice_index_or bare word None
     else if digits == 0o02 then slice_index_or last (word / 0o10 % 0o10) None
     else slice_index_or low digits None
 
--- the operation of a word with these first two digits, if there is one
+-- the operation of a word whose first two octal digits are these, if there is one
 abbrev pub with_first_digits : ℕ → ℕ → Option Op
 with_first_digits digits word =
     if digits == 0o00 then with_next_digits (word / 0o100) word

@@ -18,14 +18,14 @@ character_of code = slice_index alphabet code
 abbrev pub word_limit : ℕ
 word_limit = 0o175000
 
--- the word made of three codes, if there are three
+-- the word made of three codes; None if one of them is missing
 abbrev pub word_of_codes : Option ℕ → Option ℕ → Option ℕ → Option ℕ
 word_of_codes (Some first) (Some second) (Some third) = Some (first * 1600 + second * 40 + third)
 word_of_codes (Some first) (Some second) None = None
 word_of_codes (Some first) None third = None
 word_of_codes None second third = None
 
--- the word of the three characters from an index of a text on, if each has a code
+-- the word that packs three characters of a text, the first of them at an index, if each has a code
 abbrev pub packed_at : List ℕ → ℕ → Option ℕ
 packed_at text index =
     word_of_codes (code_of (slice_index text index)) (code_of (slice_index text (index + 1)))
@@ -47,7 +47,7 @@ HasNoPercent text = All (λ character. character ≢ 0o45) text
 abbrev pub Name : Type 0
 Name = ℕ × ℕ
 
--- two names are equal if both of their words are
+-- whether two names are equal: their first words are equal, and so are their second words
 abbrev pub is_same_name : Name → Name → Bool
 is_same_name one other = (one.0 == other.0) && (one.1 == other.1)
 
@@ -55,7 +55,7 @@ is_same_name one other = (one.0 == other.0) && (one.1 == other.1)
 abbrev pub IsName : Name → Type 0
 IsName name = (name.0 < word_limit) × (name.1 < word_limit)
 
--- the name made of two words, if there are two
+-- the name made of two words; None if one of them is missing
 abbrev pub name_of_words : Option ℕ → Option ℕ → Option Name
 name_of_words (Some first) (Some second) = Some (first, second)
 name_of_words (Some first) None = None

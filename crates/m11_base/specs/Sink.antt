@@ -4,13 +4,13 @@ use Rattle.std.specs.Prelude.{◌≡◌, ℕ, zero, suc, ◌-◌, [], ◌++◌, 
 use Rattle.std.specs.Io.KnownBytes.{Appends}
 use Rattle.m11_base.specs.Devices.{Bytes, Rises}
 
--- one call of a sink: it added as many bytes from the front as it returned, and none at an error
+-- a call of a sink added as many bytes as it returned, from the front of those offered to it, and none at an error
 abbrev pub Takes : {E : Type 0} → Option Bytes → Option Bytes → Result ℕ E → Bytes → Type 0
 Takes old new result bytes =
     MatchResult result (λ n. Appends old new (take n bytes)) (λ _. Appends old new [])
 
--- the count of failures before and after a call, depending on the numbers of bytes accepted and offered: it rises if bytes were offered and
--- none was accepted, and is unchanged otherwise
+-- a count of failures rises if a call accepted none of the bytes offered to it, and is unchanged if it accepted some or none were offered;
+-- the arguments are the count before and after the call, and the numbers of bytes accepted and offered
 abbrev pub CountsAt : ℕ → ℕ → ℕ → ℕ → Type 0
 CountsAt old new zero zero = new ≡ old
 CountsAt old new zero (suc n) = Rises old new
@@ -25,7 +25,7 @@ Counts old new result bytes =
 abbrev pub CountsFlush : {A E : Type 0} → ℕ → ℕ → Result A E → Type 0
 CountsFlush old new result = MatchResult result (λ _. new ≡ old) (λ _. Rises old new)
 
--- the bytes that the device has received: all accepted ones but the last `held`, which are held back
+-- the bytes that the device has received, if they are known: all accepted bytes but the last `held`, which are held back
 abbrev pub handed_on : Option Bytes → ℕ → Option Bytes
 handed_on text held = option_map (λ bytes. take (length bytes - held) bytes) text
 

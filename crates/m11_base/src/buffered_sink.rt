@@ -12,7 +12,7 @@ use std::io::{BufWriter, Write};
 
 /// A sink that collects bytes in the buffer of a writer, and writes them when the buffer is full and at `flush`. So the failure of
 /// a write may show only at a later `put` or at `flush`. A write is tried again when a signal interrupts it. The sink is for
-/// files: a person who reads along would wait.
+/// files: someone who reads the output as it is written would have to wait.
 #[derive(Drop)]
 pub struct BufferedSink<W: Write + Drop> {
     writer: BufWriter<W>,

@@ -1,4 +1,4 @@
-//! From words to instructions. (PDP-11/40 Processor Handbook, "Instruction set".)
+//! Decodes words into instructions. (PDP-11/40 Processor Handbook, "Instruction set".)
 
 ghost use Rattle.std.specs.Prelude.{◌≡◌, ◌<◌, IsTrue, ◌/◌, ◌%◌, None, is_none, slice_index_or};
 ghost use Rattle.m11_base.specs.OperationTables.{bare, operation_by_tables, with_next_digits};
@@ -34,7 +34,8 @@ pub fn operation(word: u16) -> Option<Op>
     }
 }
 
-/// The instruction that a word means, by a search of the whole list. It equals `decode`, but is slow: use it in tests.
+/// The instruction that a word means, by a search of the whole list. The result equals that of `decode`, but the search is slow: use it in
+/// tests.
 pub fn decode_by_list(word: u16) -> Insn
     ensures { result ≡ instruction_of word }
 {
@@ -70,7 +71,7 @@ fn by_tables(word: u16) -> Insn
     }
 }
 
-// The operation of a word 00xxxx, or none if the word is a reserved code.
+// The operation of a word 00xxxx, or `None` if the word is a reserved code.
 #[inline(always)]
 #[tactic(auto, unfolding(crate::specs::OperationTables::low, crate::specs::OperationTables::last))]
 fn low_operation(word: u16) -> Option<Op>
@@ -84,7 +85,7 @@ fn low_operation(word: u16) -> Option<Op>
     }
 }
 
-// The operation of a word below octal 100: the whole word is the code, and from octal 7 on there is no operation.
+// The operation of a word below octal 100: the whole word is the code. Words from octal 7 to 77 have no operation.
 #[inline(always)]
 #[tactic(auto, unfolding(crate::specs::OperationTables::bare))]
 fn bare_operation(word: u16) -> Option<Op>

@@ -1,4 +1,4 @@
-//! From instructions to their codes. (PDP-11/40 Processor Handbook, "Instruction set".)
+//! Encodes instructions as words. (PDP-11/40 Processor Handbook, "Instruction set".)
 
 ghost use Rattle.std.specs.Prelude.{◌≡◌, ◌<◌, ◌↔◌, IsTrue};
 ghost use Rattle.m11_base.specs.Encoding.{IsHeld, code_of, condition_bits, fits, has_double, has_single, number_limit};
@@ -9,7 +9,7 @@ use crate::instruction::{ConditionCodes, DoubleOp, Insn, NumberOp, RTS, SOB, Sin
 use crate::operand::Size;
 
 impl Insn {
-    /// Whether the instruction has a code: its operation is in the list in this size, and each field fits its bits. A reserved
+    /// Whether the instruction has a code: the instruction list has its operation in its size, and each field fits its bits. A reserved
     /// code fits if it matches no row of the list.
     pub fn fits(&self) -> bool
         ensures fits { result ≡ fits self.now }
@@ -28,7 +28,7 @@ pub fn encode(instruction: &Insn) -> u16
     code(instruction)
 }
 
-// Whether the list has the operation in this size, and each field fits its bits. A reserved code must match no row of the list.
+// Whether the list has the operation in its size, and each field fits its bits. A reserved code must match no row of the list.
 fn fits_fields(instruction: &Insn) -> bool
     ensures fits { result ≡ fits instruction.now }
     ensures held { IsHeld instruction.now }
@@ -49,7 +49,7 @@ fn fits_fields(instruction: &Insn) -> bool
     }
 }
 
-// The bits of the operation, with the fields at their positions; a reserved code is the word itself.
+// The code of an instruction that fits: the bits of its operation, with its fields at their positions. The code of `Reserved` is its word.
 fn code(instruction: &Insn) -> u16
     requires { IsTrue (fits instruction.now) }
     ensures code { result ≡ code_of instruction.now }
@@ -98,7 +98,7 @@ fn has_single(operation: SingleOp, size: Size) -> bool
     }
 }
 
-// The limit below which the number in an operation's code lies.
+// The exclusive upper limit of the number in an operation's code.
 fn number_limit(operation: NumberOp) -> u16
     ensures { result ≡ number_limit operation }
 {
@@ -108,7 +108,7 @@ fn number_limit(operation: NumberOp) -> u16
     }
 }
 
-// The low four bits of an operation on condition codes: N is octal 10, Z 4, V 2, C 1.
+// The low four bits of a code that clears or sets these condition codes: N is octal 10, Z 4, V 2, C 1.
 fn condition_bits(codes: ConditionCodes) -> u16
     ensures bits { result ≡ condition_bits codes }
     ensures below { result < 0o20 }

@@ -15,7 +15,8 @@ pub trait Feed {
     // How often a call has failed, up to `last_count`.
     ghost faults: { Self → ℕ };
 
-    // An upper bound on the number of bytes still to come. Each byte lowers it, so that reading to the end does end.
+    // An upper bound on the number of bytes still to come. Each byte that is read lowers it, so that a loop that reads to the end
+    // terminates.
     ghost left: { Self → ℕ };
 
     // The bytes available without a read: the first of those still to come, or none.

@@ -70,7 +70,7 @@ impl<F: Feed> Feed for FuseFeed<F> {
         ensures spends { self.old.faults ≢ last_count → self.new.calls ≡ self.old.calls - 1 }
         // a blown fuse fails, even at the end of the text
         ensures blows { self.old.calls ≡ 0 → IsErr result }
-        // while calls are left and the count of failures is below its last value, the feed itself was called, with this result
+        // if calls are left and the count of failures is below its greatest value, the inner feed was called and returned this result
         ensures passes { 0 < self.old.calls → self.old.faults ≢ last_count
             → GivesAndCounts (F.text self.old.feed) (F.text self.new.feed) (F.faults self.old.feed)
             (F.faults self.new.feed) result }
@@ -169,8 +169,8 @@ impl<S: Sink> Sink for FuseSink<S> {
         ensures keeps_limit { self.new.most ≡ self.old.most }
         ensures spends { self.old.faults ≢ last_count → self.new.calls ≡ self.old.calls - 1 }
         ensures blows { self.old.calls ≡ 0 → IsErr result }
-        // while calls are left and the count of failures is below its last value, the sink itself was called, with at most `most`
-        // bytes from the front and with this result
+        // if calls are left and the count of failures is below its greatest value, the inner sink was called with at most `most` bytes from
+        // the front, and returned this result
         ensures passes { 0 < self.old.calls → self.old.faults ≢ last_count
             → Counts (S.faults self.old.sink) (S.faults self.new.sink) result
             (take self.old.most bytes.now) }
@@ -199,7 +199,7 @@ impl<S: Sink> Sink for FuseSink<S> {
         ensures keeps_limit { self.new.most ≡ self.old.most }
         ensures spends { self.old.faults ≢ last_count → self.new.calls ≡ self.old.calls - 1 }
         ensures blows { self.old.calls ≡ 0 → IsErr result }
-        // while calls are left and the count of failures is below its last value, the sink itself was flushed, with this result
+        // if calls are left and the count of failures is below its greatest value, the inner sink was flushed and returned this result
         ensures passes { 0 < self.old.calls → self.old.faults ≢ last_count
             → CountsFlush (S.faults self.old.sink) (S.faults self.new.sink) result }
     {

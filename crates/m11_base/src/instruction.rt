@@ -168,7 +168,7 @@ pub enum Insn {
     Reserved(u16),
 }
 
-/// An operation with the form of its operands. All but `Condition` are meanings of names in a source.
+/// An operation with the form of its operands. A name in a source can mean any of these but `Condition`.
 #[derive(Clone, Copy, Debug, PartialEq, Eq)]
 pub enum Op {
     /// A source and a destination.
@@ -195,7 +195,7 @@ pub enum Op {
     Call,
     /// RETURN: no operand. It is RTS with the program counter as its register.
     Return,
-    /// No operand: the name alone says which condition codes are cleared or set, as CLC does.
+    /// No operand: a name such as CLC says by itself which condition codes are cleared or set.
     Codes(ConditionOp, ConditionCodes),
 }
 

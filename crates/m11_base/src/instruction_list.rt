@@ -185,7 +185,7 @@ pub fn rows() -> &'static [Row]
     &ROWS
 }
 
-/// The rows of the other names, each for codes that the list has too.
+/// The rows of the other names. Their codes are in the list too.
 #[tactic(auto, unfolding(crate::specs::Instructions::other_names))]
 pub fn other_names() -> &'static [Row]
     ensures { result.now ≡ other_names }

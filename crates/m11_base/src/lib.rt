@@ -59,12 +59,12 @@ pub use instruction::{
 };
 pub use operand::{Mode, Operand, Register, Size};
 
-// The list: a row for each operation in each of its sizes, and other names for its codes.
+// The instruction list: a row for each operation in each of its sizes, and other names for its codes.
 mod instruction_list;
 
 pub use instruction_list::{Row, other_names, rows};
 
-// From words to instructions, by tables over octal digits, and from instructions to words.
+// Decoding of words into instructions, by tables indexed by octal digits, and encoding of instructions as words.
 mod decoding;
 mod encoding;
 mod operation_tables;
@@ -72,7 +72,7 @@ mod operation_tables;
 pub use decoding::{decode, decode_by_list, operation};
 pub use encoding::encode;
 
-// From names in a source to operations.
+// The operations that names in a source mean.
 mod mnemonics;
 
 pub use mnemonics::mnemonic;

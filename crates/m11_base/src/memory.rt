@@ -75,14 +75,14 @@ impl MemorySink {
         }
     }
 
-    /// All the bytes put to it.
+    /// All the bytes that the sink has accepted.
     pub fn bytes(&self) -> &[u8]
         ensures { ⟦<MemorySink as Sink>⟧.text self.now ≡ Some result.now }
     {
         self.bytes.as_slice()
     }
 
-    /// Turns the sink into the vector of all the bytes put to it.
+    /// Turns the sink into the vector of all the bytes that it has accepted.
     pub fn into_bytes(self) -> Vec<u8>
         ensures { ⟦<MemorySink as Sink>⟧.text self ≡ Some result.items }
     {

@@ -1,5 +1,4 @@
-//! From names in a source to operations. (MACRO-11 Language Reference Manual, "Permanent symbol
-//! table".)
+//! Finds the operations that names in a source mean. (MACRO-11 Language Reference Manual, "Permanent symbol table".)
 
 ghost use Rattle.std.specs.Prelude.{◌≡◌};
 ghost use Rattle.std.specs.List.{list_all};

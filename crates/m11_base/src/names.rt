@@ -7,7 +7,7 @@ ghost use Rattle.m11_base.specs.Rad50.{name_of};
 
 use crate::rad50::Name;
 
-/// The name of the absolute section, `. ABS.`, which is in each module.
+/// The name of the absolute section, `. ABS.`. Each module has this section.
 pub fn absolute_section() -> Name
     ensures { result ≡ absolute_name }
 {
@@ -17,7 +17,7 @@ pub fn absolute_section() -> Name
     }
 }
 
-/// The name of six blanks: the name of the section in which assembly begins, and of a linked module whose object gives no name.
+/// Six blanks: the name of the section in which assembly begins, and of a linked module if its object file gives it no name.
 #[tactic(auto, unfolding(crate::specs::Rad50::alphabet, crate::specs::Rad50::code_of))]
 pub fn blank_name() -> Name
     ensures words { result ≡ blank_name }

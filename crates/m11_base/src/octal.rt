@@ -1,4 +1,4 @@
-//! Words as octal digits, and back. (MACRO-11 Language Reference Manual, "Numbers".)
+//! Words as octal digits, and the words that octal digits spell. (MACRO-11 Language Reference Manual, "Numbers".)
 
 ghost use Rattle.std.specs.Prelude.{◌≡◌, ◌≤◌, ◌↔◌, [], Some, None, Err, if◌then◌else◌, nat_lt};
 ghost use Rattle.std.specs.List.{list_all};
@@ -44,8 +44,8 @@ fn word_of_digits(digits: &[u8]) -> Option<u16>
     Some(value as u16)
 }
 
-/// The word that a text of octal digits spells, with any number of leading zeros. Faults, each looked for in the whole text before the
-/// next one: Empty, BadDigit, TooLarge.
+/// The word that a text of octal digits spells; it may have any number of leading zeros. Faults: `Empty`, if the text is empty; else
+/// `BadDigit`, if a character isn't an octal digit; else `TooLarge`, if the number is over octal 177777.
 #[tactic(auto, using(crate::proofs::Digits::bad_digit_among))]
 pub fn read_octal(text: &[u8]) -> Result<u16, OctalFault>
     ensures word { result ≡ octal_of text.now }

@@ -13,7 +13,7 @@ macro_rules! entry {
     };
 }
 
-// Words by their upper four bits; words 00xxxx, 07xxxx and 10xxxx are in the other tables.
+// The operations of words, by the upper four bits. Those of words 00xxxx, 07xxxx and 10xxxx are in the other tables.
 #[rattlefmt::skip]
 pub(crate) static DOUBLES: [Option<Op>; 16] = [
     None, entry!(Double Mov Word), entry!(Double Cmp Word), entry!(Double Bit Word),
@@ -22,28 +22,28 @@ pub(crate) static DOUBLES: [Option<Op>; 16] = [
     entry!(Double Bic Byte), entry!(Double Bis Byte), entry!(Double Sub Word), None,
 ];
 
-// Words 07xxxx, by the next octal digit.
+// The operations of words 07xxxx, by the next octal digit.
 #[rattlefmt::skip]
 pub(crate) static EXTENDED: [Option<Op>; 8] = [
     entry!(Extended Mul), entry!(Extended Div), entry!(Extended Ash), entry!(Extended Ashc),
     entry!(Register Xor), None, None, entry!(Sob),
 ];
 
-// Words 000000 to 000007.
+// The operations of words 000000 to 000007.
 #[rattlefmt::skip]
 pub(crate) static BARE: [Option<Op>; 8] = [
     entry!(Bare Halt), entry!(Bare Wait), entry!(Bare Rti), entry!(Bare Bpt),
     entry!(Bare Iot), entry!(Bare Reset), entry!(Bare Rtt), None,
 ];
 
-// Words 0002xx, by the next octal digit.
+// The operations of words 0002xx, by the next octal digit.
 #[rattlefmt::skip]
 pub(crate) static LAST: [Option<Op>; 8] = [
     entry!(Rts), None, None, None,
     entry!(Condition Clear), entry!(Condition Clear), entry!(Condition Set), entry!(Condition Set),
 ];
 
-// Other words 00xxxx, by the next two octal digits.
+// The operations of the other words 00xxxx, by the next two octal digits.
 #[rattlefmt::skip]
 pub(crate) static LOW: [Option<Op>; 64] = [
     None, entry!(Single Jmp Word), None, entry!(Single Swab Word),
@@ -64,7 +64,7 @@ pub(crate) static LOW: [Option<Op>; 64] = [
     None, None, None, None,
 ];
 
-// Words 10xxxx, by the next two octal digits.
+// The operations of words 10xxxx, by the next two octal digits.
 #[rattlefmt::skip]
 pub(crate) static HIGH: [Option<Op>; 64] = [
     entry!(Branch Bpl), entry!(Branch Bpl), entry!(Branch Bpl), entry!(Branch Bpl),

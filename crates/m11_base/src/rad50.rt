@@ -38,8 +38,8 @@ fn three_characters(word: u16) -> [u8; 3]
 pub struct Rad50;
 
 impl Rad50 {
-    /// The code of a character, below 40: blank, `A` to `Z`, `$`, `.`, `0` to `9`. Other characters, such as lower case, have
-    /// none.
+    /// The code of a character, a number below 40 in decimal. Blank, `A` to `Z`, `$`, `.` and `0` to `9` have codes; other characters, such
+    /// as lower-case letters, have none.
     pub fn code(character: u8) -> Option<u16>
         ensures code { result ≡ code_of character }
         ensures below { IfSome result (λ code. code < 40) }

@@ -18,9 +18,9 @@ pub trait Sink {
     // How many of the last bytes it still holds back.
     ghost held: { Self → ℕ };
 
-    /// Accepts bytes from the front of `bytes`, and returns how many; at an error it accepts none. Errors are counted, and so is a
-    /// result of 0 for bytes that aren't empty; once the count is `last_count`, each call fails. The error may concern bytes that
-    /// were held back before.
+    /// Accepts bytes from the front of `bytes`, and returns how many; at an error it accepts none. Errors are counted, and so is a result
+    /// of 0 unless `bytes` is empty; once the count is `last_count`, each call fails. An error may concern bytes that earlier calls
+    /// accepted and the sink still held.
     fn put(&mut self, bytes: &[u8]) -> Result<usize, DeviceFault>
         ensures within { IfOk result (λ n. n ≤ length bytes.now) }
         ensures takes { Takes (text self.old) (text self.new) result bytes.now }

@@ -11,9 +11,8 @@ use crate::sink::Sink;
 use std::io;
 use std::io::{Read, Write};
 
-/// A feed of the bytes of a reader, one byte per read. No byte is ready, so nothing is read ahead: it is for a person who types.
-/// A read is tried again when a signal interrupts it. After 18,446,744,073,709,551,615 bytes, or as many failures, each call of
-/// `next` fails.
+/// A feed of the bytes of a reader, one byte per read. It never reads ahead, so no byte is ready. It is for input that a person types. A
+/// read is tried again when a signal interrupts it. After 18,446,744,073,709,551,615 bytes, or as many failures, each call of `next` fails.
 #[derive(Drop)]
 pub struct ReaderFeed<R> {
     reader: R,

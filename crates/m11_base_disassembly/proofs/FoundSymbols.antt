@@ -1,4 +1,4 @@
--- Symbols that were found in the first lines.
+-- The symbols that were found in the first lines of a text.
 use Rattle.std.proofs.Common.{◌≡◌, ◌∙◌, ℕ, Bool, false, cond, List, [], ◌∷◌, ◌++◌, append_assoc, append-nil, Option, Some, None, Result, Ok, Err, refl, sym, ap}
 use Rattle.std.specs.Option.{option_to_list}
 use Rattle.m11_base_disassembly.specs.Rows.{Rows, symbols_in, with_symbol}
@@ -16,7 +16,7 @@ one_more_symbol done (Some symbol) (Err fault) = refl
 one_more_symbol done None (Ok symbols) = ap (λ (xs : List Symbol). Ok (xs ++ symbols)) (sym (append-nil done))
 one_more_symbol done None (Err fault) = refl
 
--- one more line has a symbol or none
+-- if one more line is read, its symbol, if it has one, follows the symbols found before
 pub one_added : (rows : Rows) (lines rest : List (List ℕ)) (line : List ℕ) (others : List (List ℕ)) (old now new done : List Symbol)
     (symbol : Option Symbol) → now ≡ old ++ done → symbols_in rows lines ≡ with_symbols done (symbols_in rows rest)
     → rest ≡ line ∷ others → rows.is_end line ≡ false → rows.symbol line ≡ Ok symbol → new ≡ now ++ option_to_list symbol

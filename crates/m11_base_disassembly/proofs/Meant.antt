@@ -45,7 +45,7 @@ low_byte word = omega arith
 low_digits : (word : ℕ) → word % 64 < 64
 low_digits word = omega arith
 
--- an instruction with one operand
+-- the words of an instruction with one operand are its code and the word of the operand as it is written, if the operand has one
 with_one : (location : ℕ) (more : List ℕ) (word : ℕ) (o : Operand) (of : Operand → Insn) → AreWords more → words_of o ≤ length more
     → code_of (of o) ≡ word
     → take (1 + words_of o) (word ∷ more)
@@ -97,7 +97,7 @@ own_meant (op.Codes operation condition_codes) location word more all own code t
 
 -- ---- a line of a row
 
--- the matching row of a word is found in the list
+-- the row of a word is the one that a search of the list finds
 in_rows : (word : ℕ) (row : Row) → row_of word ≡ Some row → find (is_of word) rows ≡ Some row
 unfolding row_of
 in_rows word row e = e
@@ -117,11 +117,11 @@ not_so : (b : Bool) → not b ≡ true → b ≡ false
 not_so true e = absurd (false≢true e)
 not_so false e = refl
 
--- the line of a word means as many words as the row says
+-- the line that is written for a word by its row, or as data if there is no row, means the words from which it was written
 abbrev IsMeantBy : ℕ → ℕ → List ℕ → Option Row → Type 0
 IsMeantBy location word more row = IsMeant location (statement_by row location word more) (take (size_by row word) (word ∷ more))
 
--- no other name has a code from 240 to 277
+-- a row of the second list that isn't one of condition codes matches no word from octal 240 to 277
 no_other : (mask value word : ℕ) → word < 65536 → ((mask == 65535 && value == 135) || nat_le 192 value) ≡ true
     → bit_and word mask ≡ value → 160 ≤ word → word ≤ 191 → ⊥
 no_other mask value word fits coded is least most =
@@ -136,7 +136,7 @@ no_other mask value word fits coded is least most =
         let same = word_same word value fits (subst P (eqb-true mask 65535 parts.0) is) in
         let small = eqb-true value 135 parts.1 in omega (arith, same, small, least)
 
--- a name of condition codes has no operands, and its code is the word
+-- if a row of the second list matches a word from octal 240 to 277, its operation has no operands, and the word is its code
 coded_meant : (o : Op) (mask value location word : ℕ) → word < 65536 → is_coded o mask value ≡ true → bit_and word mask ≡ value
     → 160 ≤ word → word ≤ 191 → Means o Nothing location (word ∷ [])
 coded_meant (op.Codes operation condition_codes) mask value location word fits coded is least most =
@@ -162,7 +162,7 @@ module _ (location word : ℕ) (more : List ℕ) (fits : word < 65536) (all : Ar
         subst P is (own_meant row.operation location word more all own (ap code_of is ∙ code_again word fits) (subst Q (sym is) there)),
       )
 
-  -- the rows without names are those of condition codes
+  -- a row without a name is one of condition codes, so its line has no operands
   no_operands : (o : Op) → is_condition o ≡ true → with_fields o word ≡ instruction_of word → (name : List ℕ) (other : Op)
       → operation_named (bare_name name) ≡ Some other → Means other Nothing location (word ∷ [])
       → IsMeant location (Named name (operands_of location more (instruction_of word)))
@@ -212,7 +212,7 @@ whole_meant location word more fits all true whole =
     named_meant location word more fits all (leb-true (words_after (instruction_of word)) (length more) whole) (row_of word) refl
 whole_meant location word more fits all false part = refl
 
--- the line of a word at a location, with the words that follow it, means as many of these as its size says
+-- the line of a word and of the words that follow it means as many of these words as its size says
 pub line_meant : (location word : ℕ) (more : List ℕ) → word < 65536 → AreWords more
     → IsMeant location (statement_of location word more) (take (size_of word more) (word ∷ more))
 line_meant location word more fits all =

@@ -1,4 +1,4 @@
--- The names of the lists: each denotes the operation of its row.
+-- Each name in the two lists means the operation of its row.
 use Rattle.std.proofs.Common.{◌≡◌, ℕ, ◌+◌, ◌≤◌, ◌<◌, Bool, true, false, List, [], ◌∷◌, find, slice_index, Option, Some, refl, subst, arith}
 use Rattle.std.specs.Prelude.{◌==◌, ◌&&◌, ◌||◌, not, nat_le, bit_and, if◌then◌else◌}
 use Rattle.std.specs.List.{AllByRecursion, list_all}
@@ -17,7 +17,7 @@ use Rattle.m11_base_disassembly.specs.Texts.{bare_name}
 abbrev pub is_blank : Row → Bool
 is_blank row = slice_index row.name 0 == 32
 
--- a name denotes its row's operation
+-- the name in a row, unless it is blank, means the row's operation
 abbrev pub IsNamed : Row → Type 0
 IsNamed row = is_blank row ≡ false → operation_named (bare_name row.name) ≡ Some row.operation
 
@@ -45,7 +45,7 @@ others_named =
     (λ e. refl) ⨾ (λ e. refl) ⨾ (λ e. refl) ⨾ (λ e. refl) ⨾ (λ e. refl) ⨾ (λ e. refl) ⨾ (λ e. refl) ⨾ (λ e. refl) ⨾
     (λ e. refl) ⨾ (λ e. refl) ⨾ (λ e. refl) ⨾ (λ e. refl) ⨾ (λ e. refl) ⨾ (λ e. refl) ⨾ (λ e. refl) ⨾ tt
 
--- if P holds of all rows, it holds of the one that is found, and so does the test
+-- if P holds of all rows, then P and the test hold of the row that a search finds
 found_by : (test : Row → Bool) (P : Row → Type 0) (first : Row) (others : Option Row) (row : Row) (b : Bool) → test first ≡ b → P first
     → (others ≡ Some row → P row × (test row ≡ true)) → (if b then Some first else others) ≡ Some row
     → P row × (test row ≡ true)
@@ -79,7 +79,7 @@ is_sound row =
     if is_blank row then is_condition row.operation && (row.mask == 65520 && (nat_le 160 row.value && nat_le row.value 176))
     else is_own row.operation
 
--- a name of the second list is one of condition codes, or its row has no code from 240 to 277
+-- a row of the second list matches only the code of its operation on condition codes, or no word from octal 240 to 277
 abbrev pub is_coded : Op → ℕ → ℕ → Bool
 is_coded (op.Codes operation condition_codes) mask value =
     mask == 65535 && value == code_of (insn.Condition operation condition_codes)
@@ -103,14 +103,14 @@ others_coded = all_by is_other other_names refl
 
 -- ---- words of rows
 
--- a word that matches a row whose mask leaves out four bits
+-- if a word has a value under the mask of all but the low four bits, it is at least that value and at most 15 more
 pub word_near : (word value : ℕ) → word < 65536 → bit_and word 65520 ≡ value → (value ≤ word) × (word ≤ value + 15)
 word_near word value h e =
     let sum = or_add_and word 65520 in
     let most = or_lt 16 word 65520 (omega arith) (omega arith) in
     let least = and_le_l word 65520 in (omega (arith, e, least), omega (arith, e, sum, most))
 
--- a word that matches a row whose mask leaves out none
+-- if a word has a value under the mask of all bits, it is that value
 pub word_same : (word value : ℕ) → word < 65536 → bit_and word 65535 ≡ value → word ≡ value
 word_same word value h e =
     let sum = or_add_and word 65535 in

@@ -1,11 +1,11 @@
--- The name by which an address is shown is that of the nearest global at or below it.
+-- The name of an address is that of the nearest symbol at or below it.
 use Rattle.std.proofs.Common.{ℕ, ◌≤◌, List, [], ◌∷◌, ◌++◌, Option, Some, None, inl, inr, refl, sym, subst, ap, arith}
 use Rattle.std.specs.List.{AllByRecursion}
 use Rattle.std.proofs.lemmas.Bool.{cases_lt, le-leb, lt-leb}
 use Rattle.m11_base_disassembly.specs.Symbols.{IsAbove, IsLower, IsNearest, IsNoHigher, nearer, nearest}
 use Rattle.m11_base_disassembly.specs.declared.symbols.Symbol.{Symbol}
 
--- ---- of the symbols that are no nearer
+-- ---- symbols that are no nearer
 
 all_above : (address : ℕ) (symbol : Symbol) (symbols : List Symbol) → AllByRecursion (IsAbove address) symbols
     → AllByRecursion (IsNoHigher address symbol) symbols
@@ -25,7 +25,7 @@ module _ (address : ℕ) (symbol other : Symbol) (higher : other.value ≤ symbo
   all_no_higher (next ∷ before) after h k =
       (λ le. let one = h.0 le in omega (arith, one, higher), all_no_higher before after h.1 k)
 
--- ---- the nearest of one more
+-- ---- the nearest symbol, with one more symbol in front
 
 module _ (address : ℕ) (symbol : Symbol) (symbols : List Symbol) where
   of_none : IsNearest address symbols None → IsNearest address (symbol ∷ symbols) (nearer address symbol None)
@@ -34,7 +34,7 @@ module _ (address : ℕ) (symbol : Symbol) (symbols : List Symbol) where
     | inr below ↦ rw (le-leb symbol.value address below) ([], symbols, refl, below, tt, all_above address symbol symbols h)
   ]
 
-  -- the later one stays
+  -- if the symbol in front is above the address or lower than the nearest of the others, that one stays the nearest
   of_later : (other : Symbol) → IsNearest address symbols (Some other) → IsLower address other symbol
       → IsNearest address (symbol ∷ symbols) (Some other)
   of_later other h lower =

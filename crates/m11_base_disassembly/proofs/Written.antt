@@ -1,4 +1,4 @@
--- The text that is written for operands means these operands, and their words.
+-- An operand as it is written means the operand and the word from which it was written.
 use Rattle.std.proofs.Common.{◌≡◌, ◌∙◌, ℕ, zero, suc, ◌+◌, ◌*◌, ◌%◌, ◌≤◌, ◌<◌, List, [], ◌∷◌, ◌++◌, drop, length, slice_index, take, refl, sym, ap, ap₂, subst, take-add, arith}
 use Rattle.std.proofs.lemmas.List.{length-take-le}
 use Rattle.m11_base.specs.declared.operand.Mode.{Mode}
@@ -50,12 +50,12 @@ operand_again o after word =
     (by_register_again m R4 word) (by_register_again m R5 word) (by_register_again m Sp word)
     (by_counter_again m after word) o.register
 
--- ---- its word
+-- ---- the word of the operand
 
 distance_again : (after word : ℕ) → after < 65536 → word < 65536 → distance after ((after + word) % 65536) ≡ word
 distance_again after word h k = omega arith
 
--- the word of an operand, if it has one
+-- the operand as it is written has the word from which it was written, if it has one
 abbrev IsItsWord : Mode → Register → ℕ → ℕ → Type 0
 IsItsWord m r after word = words_meant after (argument_by m r after word) ≡ take (words_by m r) (word ∷ [])
 
@@ -93,7 +93,7 @@ few mode.AutodecrementDeferred r = omega arith
 few mode.Index r = omega arith
 few mode.IndexDeferred r = omega arith
 
--- ---- among the words after the code
+-- ---- the words after the code
 
 below : (more : List ℕ) (k : ℕ) → AreWords more → slice_index more k < 65536
 below [] k all = omega arith

@@ -7,7 +7,7 @@ use Rattle.m11_base.specs.declared.operand.Operand.{Operand}
 use Rattle.m11_base.specs.declared.operand.Register.{Register}
 use Rattle.m11_base.specs.declared.operand.Register.TheVariants.{R0, R1, R2, R3, R4, R5, Sp, Pc}
 
--- an operand: `R`, `(R)`, `(R)+`, `@(R)+`, `-(R)`, `@-(R)`, `X(R)`, `@X(R)`, `#X`, `@#X`, an address, and `@` before one
+-- an operand: `R`, `(R)`, `(R)+`, `@(R)+`, `-(R)`, `@-(R)`, `X(R)`, `@X(R)`, `#X`, `@#X`, an address, or `@` and an address
 pub data Argument : Type 0 where
   Plain : Register → Argument
   Deferred : Register → Argument
@@ -22,7 +22,7 @@ pub data Argument : Type 0 where
   Relative : ℕ → Argument
   DeferredRelative : ℕ → Argument
 
--- the operand of this mode and register; `word` is the word after the instruction's code, which only some modes use
+-- the operand with this mode and register; `word` is the word after the instruction's code, which only some modes use
 abbrev pub by_register : Mode → Register → ℕ → Argument
 by_register mode.Register register word = Plain register
 by_register mode.RegisterDeferred register word = Deferred register
@@ -33,7 +33,7 @@ by_register mode.AutodecrementDeferred register word = DeferredBackward register
 by_register mode.Index register word = Indexed word register
 by_register mode.IndexDeferred register word = DeferredIndexed word register
 
--- the operand of this mode and the program counter, for which four modes have forms of their own; `after` is the location after the
+-- the operand with this mode and the program counter, for which four modes have forms of their own; `after` is the location after the
 -- operand's word
 abbrev pub by_counter : Mode → ℕ → ℕ → Argument
 by_counter mode.Autoincrement after word = Immediate word
@@ -58,7 +58,7 @@ argument_by m Sp after word = by_register m Sp word
 abbrev pub argument : Operand → ℕ → ℕ → Argument
 argument operand after word = argument_by operand.mode operand.register after word
 
--- how many words after the instruction's code an operand takes: 0 or 1
+-- how many words an operand has after the instruction's code: 0 or 1
 abbrev pub words_by : Mode → Register → ℕ
 words_by mode.Index register = 1
 words_by mode.IndexDeferred register = 1
@@ -71,7 +71,7 @@ words_of operand = words_by operand.mode operand.register
 
 -- ---- the meaning of operands to an assembler
 
--- an operand by its mode and its register
+-- the operand with this mode and this register
 abbrev pub coded : Mode → Register → Operand
 coded m register = record { mode = m; register = register }
 
@@ -93,8 +93,8 @@ operand_meant (DeferredRelative address) = coded mode.IndexDeferred Pc
 abbrev pub distance : ℕ → ℕ → ℕ
 distance after address = (address + 65536 - after) % 65536
 
--- the word of an operand after the instruction's code, if it has one; a relative address is relative to the location after that
--- word
+-- the operand's word after the instruction's code, if it has one; `after` is the location after that word, and for a relative operand the
+-- word is the distance from there
 abbrev pub words_meant : ℕ → Argument → List ℕ
 words_meant after (Plain register) = []
 words_meant after (Deferred register) = []

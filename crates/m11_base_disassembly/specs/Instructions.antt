@@ -1,5 +1,5 @@
--- The line of source of an instruction at a location. (PDP-11/40 Processor Handbook, "Instruction set" and "Addressing modes".) A
--- word whose code has no name is a word of data, and so is the first word of an instruction whose other words are missing.
+-- The line of source for an instruction at a location. (PDP-11/40 Processor Handbook, "Instruction set" and "Addressing modes".) A word
+-- whose code has no name is a word of data, and so is the first word of an instruction whose other words are missing.
 use Rattle.std.specs.Prelude.{ℕ, ℤ, pos, ◌+◌, ◌-◌, ◌*◌, ◌%◌, ◌==◌, nat_le, if◌then◌else◌, List, length, find, slice_index, Option, Some, None}
 use Rattle.std.specs.Int.{cast_unsigned, w16}
 use Rattle.m11_base.specs.Instructions.{instruction_of, is_of, other_names, row_of}
@@ -12,7 +12,7 @@ use Rattle.m11_base_disassembly.specs.Statements.{Operands, Nothing, One, Two, T
 
 -- ---- names
 
--- the row of a word, unless its name is blank; in that case, the word's row in the list of other names
+-- the row of a word, unless the row's name is blank; in that case, the word's row in the list of other names, if it has one
 abbrev pub named_row : Option Row → ℕ → Option Row
 named_row None word = None
 named_row (Some row) word = if slice_index row.name 0 == 32 then find (is_of word) other_names else Some row
@@ -31,7 +31,7 @@ words_after (insn.Register operation register destination) = words_of destinatio
 words_after (insn.Single operation size operand) = words_of operand
 words_after other = 0
 
--- the row of a word, if the word has a name and all words of the instruction are present
+-- the row whose name is written for this word, if there is one and all words of the instruction are present
 abbrev pub whole_row : ℕ → List ℕ → Option Row
 whole_row word more = if nat_le (words_after (instruction_of word)) (length more) then row_named word else None
 
@@ -59,7 +59,7 @@ loop_target location count = (location + 65538 - 2 * count) % 65536
 abbrev pub first_argument : ℕ → List ℕ → Operand → Argument
 first_argument location more operand = argument operand (location_after location 4) (slice_index more 0)
 
--- the second operand; its word, if it has one, follows that of the first
+-- the second operand; its word, if it has one, follows the code and any word of the first operand
 abbrev pub second_argument : ℕ → List ℕ → Operand → Operand → Argument
 second_argument location more first operand =
     argument operand (location_after location (4 + 2 * words_of first)) (slice_index more (words_of first))
@@ -88,8 +88,8 @@ abbrev pub size_by : Option Row → ℕ → ℕ
 size_by None word = 1
 size_by (Some row) word = 1 + words_after (instruction_of word)
 
--- the line of the instruction at this location whose code is `word` and which continues with the words `more`; or of `word` as data
--- if it has no name or words of the instruction are missing
+-- the line of the instruction at this location with the code `word` and the words `more` after it; or the line of `word` as data, if the
+-- code has no name or `more` lacks a word of the instruction
 abbrev pub statement_of : ℕ → ℕ → List ℕ → Statement
 statement_of location word more = statement_by (whole_row word more) location word more
 

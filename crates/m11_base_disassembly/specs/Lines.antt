@@ -12,7 +12,7 @@ abbrev pub lines_of : Bytes → List Bytes
 lines_of [] = []
 lines_of (byte ∷ bytes) = if byte == 10 then [] ∷ lines_of bytes else longer byte (lines_of bytes)
 
--- the lines after the first one that is this word, if there is one
+-- the lines after the first one that equals `word`; None if no line does
 abbrev pub lines_after : Bytes → List Bytes → Option (List Bytes)
 lines_after word [] = None
 lines_after word (line ∷ lines) = if bytes_eq line word then Some lines else lines_after word lines

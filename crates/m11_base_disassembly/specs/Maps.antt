@@ -38,8 +38,8 @@ symbols_of bottom text =
 abbrev pub most_bytes : ℕ
 most_bytes = 16777216
 
--- why a text couldn't be read: its device failed and counted the failure; it has more bytes than a text may have; or memory was refused; in
--- the last two cases the count of failures is unchanged
+-- Why a text couldn't be read: its device failed and counted the failure; the text has more than `most_bytes` bytes; or memory was refused.
+-- In the last two cases the count of failures is unchanged.
 abbrev pub IsUnread : Option Text → ℕ → ℕ → MapFault → Type 0
 IsUnread text faults faults' Read = Rises faults faults'
 IsUnread text faults faults' BadMap = ⊥
@@ -49,16 +49,18 @@ IsUnread text faults faults' NoMemory = faults' ≡ faults
 
 -- ---- adding symbols to others
 
--- symbols that were found were added to others; or none were found, or memory was refused
+-- the symbols found in a text were added after the old ones; or the call failed, with `BadMap` if the text has none of the forms, or with
+-- `NoMemory`
 abbrev pub Adds : Result (List Symbol) MapFault → List Symbol → List Symbol → Result (Unit {0}) MapFault → Type 0
 Adds found old new (Ok done) = (more : List Symbol) × (found ≡ Ok more) × (new ≡ old ++ more)
 Adds found old new (Err fault) = (fault ≡ NoMemory) ⊎ ((fault ≡ BadMap) × (found ≡ Err BadMap))
 
--- the symbols of lines were added; or not all of them were, for the reason that the fault gives
+-- the symbols of these lines were added after the old ones; or the call failed, for a reason that `Adds` allows
 abbrev pub AddsSymbols : Rows → List Bytes → List Symbol → List Symbol → Result (Unit {0}) MapFault → Type 0
 AddsSymbols rows lines old new result = Adds (symbols_in rows lines) old new result
 
--- the symbol of a line was added, if it has one; or the line doesn't have the form, or memory was refused
+-- the symbol of a line, if it has one, was added after the old ones; or the call failed, with `BadMap` because the line doesn't have the
+-- form, or with `NoMemory`
 abbrev pub AddsSymbol : Rows → Bytes → List Symbol → List Symbol → Result (Unit {0}) MapFault → Type 0
 AddsSymbol rows line old new (Ok done) =
     (symbol : Option Symbol) × (rows.symbol line ≡ Ok symbol) × (new ≡ old ++ option_to_list symbol)

@@ -25,8 +25,9 @@ first_words location first = words_meant (location_after location 4) first
 abbrev pub second_words : ℕ → Argument → Argument → List ℕ
 second_words location first second = words_meant (location_after location (4 + 2 * length (first_words location first))) second
 
--- the words of an operation with these operands at this location, from which the target of a branch or SOB is within reach; an operation
--- has no words with operands of a form other than its own; CALL and RETURN, which occur in no line, have none at all
+-- An operation with these operands at this location assembles to these words; the target of a branch or of SOB is within reach. This holds
+-- of no words if the operands don't have the operation's form. It holds of none for CALL and RETURN either, since no line of a disassembly
+-- has these names, nor for `Condition`, since no name means it.
 abbrev pub Means : Op → Operands → ℕ → List ℕ → Type 0
 Means (op.Double operation size) (Two first second) location words =
     words ≡ code_of (insn.Double operation size (operand_meant first) (operand_meant second))
@@ -49,8 +50,8 @@ Means (op.Codes operation condition_codes) Nothing location words =
     words ≡ code_of (insn.Condition operation condition_codes) ∷ []
 Means operation operands location words = ⊥
 
--- the words of a line at this location: those of the operation with its name and operands, or the word of data; a line with a byte
--- of data has no words
+-- a line at this location assembles to these words: those of the operation with its name and operands, or the word of data; this holds of
+-- no words if the line is a byte of data
 abbrev pub IsMeant : ℕ → Statement → List ℕ → Type 0
 IsMeant location (Named name operands) words = (operation : Op) × (operation_named (bare_name name) ≡ Some operation)
     × Means operation operands location words

@@ -4,7 +4,7 @@ use Rattle.std.specs.Prelude.{ℕ, ◌==◌, ◌&&◌, nat_lt, if◌then◌else�
 use Rattle.m11_base.specs.Devices.{Bytes}
 use Rattle.m11_base.specs.Octal.{octal_text}
 
--- digits without leading zeros; a single 0 remains
+-- digits without leading zeros; the last digit remains even if it is 0
 abbrev pub significant : Bytes → Bytes
 significant [] = []
 significant (digit ∷ digits) = if digit == 48 && nat_lt 0 (length digits) then significant digits else digit ∷ digits

@@ -47,7 +47,7 @@ rows_of LinkMap = link_rows
 rows_of LoadMap = load_rows
 rows_of (Listing bottom sections) = listing_rows bottom (lines_of sections.now)
 
--- a symbol of a line, if there is one, and the symbols of the lines after it
+-- the symbol of a line, if there is one, before the symbols of the lines after it; or the first fault, if there is one
 abbrev pub with_symbol : Result (Option Symbol) MapFault → Result (List Symbol) MapFault → Result (List Symbol) MapFault
 with_symbol (Err fault) more = Err fault
 with_symbol (Ok symbol) (Err fault) = Err fault

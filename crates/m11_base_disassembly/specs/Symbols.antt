@@ -1,4 +1,4 @@
--- The names of addresses: the nearest global at or below an address, and the distance from there. (This project's own.)
+-- The names of addresses: the nearest symbol at or below an address, and the distance from there. (This project's own.)
 use Rattle.std.specs.Prelude.{◌≡◌, ℕ, ◌<◌, ◌≤◌, ◌-◌, ◌==◌, ◌&&◌, nat_le, if◌then◌else◌, List, [], ◌∷◌, ◌++◌, Option, Some, None}
 use Rattle.std.specs.List.{AllByRecursion}
 use Rattle.m11_base.specs.Devices.{Bytes}
@@ -31,7 +31,7 @@ IsLower address symbol other = other.value ≤ address → other.value < symbol.
 abbrev pub IsNoHigher : ℕ → Symbol → Symbol → Type 0
 IsNoHigher address symbol other = other.value ≤ address → other.value ≤ symbol.value
 
--- the first symbol of a list with the greatest value at or below an address; None if all are above it
+-- this is the first symbol of a list with the greatest value at or below an address, or None if all are above it
 abbrev pub IsNearest : ℕ → List Symbol → Option Symbol → Type 0
 IsNearest address symbols None = AllByRecursion (IsAbove address) symbols
 IsNearest address symbols (Some symbol) = (before : List Symbol) × (after : List Symbol) × (symbols ≡ before ++ symbol ∷ after)
@@ -46,6 +46,6 @@ abbrev pub name_after : Bytes → Option Symbol → ℕ → Bytes
 name_after first None address = []
 name_after first (Some symbol) address = first ++ (bare_name (name_text symbol.name) ++ distance_text (address - symbol.value))
 
--- the name of an address after a prefix; nothing if it has no name
+-- the name of an address after a prefix; nothing if the address has no name
 abbrev pub address_name : Bytes → List Symbol → ℕ → Bytes
 address_name first symbols address = name_after first (nearest address symbols) address

@@ -18,7 +18,7 @@ register_text R5 = codes "R5"
 register_text Sp = codes "SP"
 register_text Pc = codes "PC"
 
--- a register between two texts
+-- the name of a register between two texts
 abbrev pub between : Bytes → Register → Bytes → Bytes
 between first register last = (first ++ register_text register) ++ last
 

@@ -27,7 +27,7 @@ pub(crate) fn register_text(register: Register) -> &'static [u8]
     }
 }
 
-// Adds a register between two texts.
+// Adds the name of a register between two texts.
 fn put_between(line: &mut Source, first: &[u8], register: Register, last: &[u8])
     requires room { array_vec_len line.old ≤ 30 }
     requires first { length first.now ≤ 3 }
@@ -61,7 +61,7 @@ pub(crate) fn put_prefixed(line: &mut Source, first: &[u8], number: u16)
     put_number(line, number);
 }
 
-// Adds the operand of this mode and register. `word` is the word after the instruction's code, which only some modes use.
+// Adds the operand with this mode and register. `word` is the word after the instruction's code, which only some modes use.
 fn put_by_register(line: &mut Source, mode: Mode, register: Register, word: u16)
     requires { array_vec_len line.old ≤ 23 }
     ensures text { line.new.items ≡ line.old.items ++ spec.argument_text (by_register mode register word) }
@@ -82,7 +82,7 @@ fn put_by_register(line: &mut Source, mode: Mode, register: Register, word: u16)
     }
 }
 
-// Adds the operand of this mode and the program counter. `word` is its word after the code, if it has one, and `after` is the
+// Adds the operand with this mode and the program counter. `word` is the operand's word after the code, if it has one, and `after` is the
 // location after that word.
 fn put_by_counter(line: &mut Source, mode: Mode, after: u16, word: u16)
     requires { array_vec_len line.old ≤ 23 }
@@ -113,7 +113,7 @@ pub(crate) fn put_argument(line: &mut Source, operand: Operand, after: u16, word
     }
 }
 
-/// How many words after the instruction's code an operand takes: 0 or 1.
+/// How many words an operand has after the instruction's code: 0 or 1.
 pub(crate) fn words_of(operand: Operand) -> usize
     ensures words { result ≡ words_of operand }
     ensures few { result ≤ 1 }

@@ -8,7 +8,7 @@ use crate::map_fault::MapFault;
 use crate::symbols::Symbol;
 use m11_base::{Name, read_octal};
 
-/// The character in a column of a line: a blank after the line's end.
+/// The character in a column of a line; a blank after the line's end.
 pub(crate) fn column(line: &[u8], index: usize) -> u8
     ensures { result ≡ spec.column line.now index }
 {
@@ -19,7 +19,7 @@ pub(crate) fn column(line: &[u8], index: usize) -> u8
     }
 }
 
-/// The characters in three columns, from this one on.
+/// The characters in the three columns that begin with `first`.
 pub(crate) fn three_at(line: &[u8], first: usize) -> [u8; 3]
     requires { first ≤ 100 }
     ensures { result ≡ spec.three_at line.now first }
@@ -31,7 +31,7 @@ pub(crate) fn three_at(line: &[u8], first: usize) -> [u8; 3]
     ]
 }
 
-/// The characters in six columns, from this one on.
+/// The characters in the six columns that begin with `first`.
 pub(crate) fn six_at(line: &[u8], first: usize) -> [u8; 6]
     requires { first ≤ 100 }
     ensures { result ≡ spec.six_at line.now first }
@@ -46,7 +46,7 @@ pub(crate) fn six_at(line: &[u8], first: usize) -> [u8; 6]
     ]
 }
 
-/// The name in the six columns from this one on, if each character has a RADIX-50 code.
+/// The name in the six columns that begin with `first`, if each character has a RADIX-50 code.
 pub(crate) fn name_at(line: &[u8], first: usize) -> Option<Name>
     requires { first ≤ 100 }
     ensures { result ≡ spec.name_at line.now first }
@@ -54,8 +54,8 @@ pub(crate) fn name_at(line: &[u8], first: usize) -> Option<Name>
     Name::pack(&six_at(line, first))
 }
 
-/// The number that six octal digits spell, from this column on. Error: `BadMap`, if a character isn't a digit or the number exceeds
-/// octal 177777.
+/// The number that the characters in the six columns that begin with `first` spell in octal. Error: `BadMap`, if a character isn't an octal
+/// digit or the number exceeds octal 177777.
 pub(crate) fn number_at(line: &[u8], first: usize) -> Result<u16, MapFault>
     requires { first ≤ 100 }
     ensures { result ≡ spec.number_at line.now first }
@@ -66,7 +66,7 @@ pub(crate) fn number_at(line: &[u8], first: usize) -> Result<u16, MapFault>
     }
 }
 
-/// The symbol with this name and this value. Error: `BadMap`, if one of them is missing.
+/// The symbol with this name and this value. Error: `BadMap`, if there is no name or the value is an error.
 pub(crate) fn symbol_with(
     name: Option<Name>,
     value: Result<u16, MapFault>,

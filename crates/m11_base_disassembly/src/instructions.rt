@@ -1,4 +1,4 @@
-//! The lines of source of instructions and of data.
+//! Lines of source for instructions and for data.
 
 ghost use Rattle.std.specs.Prelude.{◌≡◌, ◌≤◌, ◌<◌, ◌+◌, ◌++◌, ◌∷◌, length, slice_index};
 ghost use Rattle.arrayvec.specs.ArrayVec.{array_vec_len};
@@ -78,7 +78,7 @@ fn put_first(line: &mut Source, location: u16, more: &[u16], operand: Operand)
     put_argument(line, operand, location.wrapping_add(4), word_at(more, 0));
 }
 
-// Adds the second operand. Its word, if it has one, follows that of the first.
+// Adds the second operand. Its word, if it has one, follows the code and any word of the first operand.
 fn put_second(line: &mut Source, location: u16, more: &[u16], first: Operand, operand: Operand)
     requires { array_vec_len line.old ≤ 23 }
     ensures text { line.new.items ≡ line.old.items
@@ -94,7 +94,7 @@ fn put_second(line: &mut Source, location: u16, more: &[u16], first: Operand, op
     );
 }
 
-// The line of a word of data.
+// The line of source for a word of data.
 fn word_source(word: u16) -> Source
     ensures { result.items ≡ statement_text (DataWord word) }
 {
@@ -103,7 +103,7 @@ fn word_source(word: u16) -> Source
     line
 }
 
-/// The line of source of a byte of data.
+/// The line of source for a byte of data.
 pub fn byte_source(byte: u8) -> Source
     ensures { result.items ≡ statement_text (DataByte byte) }
 {
@@ -112,7 +112,7 @@ pub fn byte_source(byte: u8) -> Source
     line
 }
 
-// Adds the operands of a double operand instruction.
+// Adds the operands of a double-operand instruction.
 fn put_double(line: &mut Source, location: u16, more: &[u16], source: Operand, destination: Operand)
     requires { array_vec_len line.old ≤ 10 }
     ensures text { line.new.items ≡ line.old.items
@@ -235,7 +235,7 @@ fn named_source(name: &[u8; 6], location: u16, more: &[u16], instruction: Insn) 
     line
 }
 
-// The row of a word, if the word has a name and all words of the instruction are present.
+// The row whose name is written for this word, if there is one and all words of the instruction are present.
 fn whole_row(word: u16, more: &[u16]) -> Option<Row>
     ensures { result ≡ spec.whole_row word more.now }
 {
@@ -246,8 +246,8 @@ fn whole_row(word: u16, more: &[u16]) -> Option<Row>
     }
 }
 
-/// The line of source of the word at this location and of the words `more` that follow it, of which two are enough. It is the
-/// instruction with this code; or a word of data if the code has no name or words of the instruction are missing. Assembled at this
+/// The line of source for the word at this location and the words `more` that follow it, of which at most two are used. The line is the
+/// instruction with this code; or a word of data if the code has no name or `more` lacks a word of the instruction. Assembled at this
 /// location of an absolute section, the line yields exactly the words that it was made from.
 pub fn disassembled(location: u16, word: u16, more: &[u16]) -> Disassembly
     ensures source { result.source.items ≡ statement_text (spec.statement_of location word more.now) }

@@ -8,9 +8,9 @@ ghost use Rattle.m11_base_disassembly.specs.Numbers.{number_text};
 ghost use Rattle.m11_base_disassembly.specs.Symbols.{IsNearest, nearest};
 ghost use Rattle.m11_base_disassembly.specs.declared.symbols.Symbol.{Symbol};
 
-/// The line of source for words at a location assembles there to exactly the words that it was made from. It is a word of data; or
-/// its name is that of an operation, the code of this operation with the operands as written is the first word, and the operands
-/// yield the others. The digits of a number spell its value.
+/// The line of source for words at a location assembles there to exactly the words that it was made from. Either it is a word of data, or
+/// it has the name of an operation; then the code of this operation with the operands as written is the first word, and the operands yield
+/// the other words. The digits of a number spell its value.
 #[tactic(auto, using(crate::proofs::Meant::line_meant, crate::proofs::Spelled::number_spelled))]
 pub fn a_line_means_its_words()
     ensures line { (location word : ℕ) (more : List ℕ) → word < 65536 → AreWords more
@@ -18,8 +18,8 @@ pub fn a_line_means_its_words()
     ensures numbers { (number : ℕ) → number < 65536 → octal_value (number_text number) ≡ number }
 {}
 
-/// The name of an address is that of the global with the greatest value that doesn't exceed the address, the first one if there are
-/// several. An address has no name if all globals exceed it.
+/// The name of an address is that of the symbol with the greatest value that doesn't exceed the address, the first one if there are
+/// several. An address has no name if the values of all symbols exceed it.
 pub fn an_address_has_the_nearest_name()
     ensures { (address : ℕ) (symbols : List Symbol) → IsNearest address symbols (nearest address symbols) }
 {}

@@ -1,7 +1,7 @@
 //! Disassembly: for words at a location, the line of source from which an assembler produces the same words there. (MACRO-11
-//! Language Reference Manual, "Addressing modes"; PDP-11/40 Processor Handbook, "Instruction set".) This crate also finds names
-//! for addresses among the globals in maps and load maps and the names in listings. Memory is allocated only for the text of a
-//! file of names and for these names.
+//! Language Reference Manual, "Addressing modes"; PDP-11/40 Processor Handbook, "Instruction set".) This crate also names
+//! addresses by the globals in the maps of links and in load maps, and by the names in listings. Memory is allocated only for the
+//! text of a file of names and for these names.
 #![tactic(auto)]
 
 // Line buffers, and the parts of a line: names of operations, numbers and operands.

@@ -16,7 +16,8 @@ fn line_length(text: &[u8]) -> usize
     index
 }
 
-/// The first line of a text, and the bytes after its line feed: none if the line has no line feed. Needs a text that isn't empty.
+/// The first line of a text without its line feed, and the bytes after the line feed, or no bytes if there is no line feed. Needs a text
+/// that isn't empty.
 #[tactic(auto, using(crate::proofs::FirstLines::first_line_is))]
 pub(crate) fn first_line(text: &[u8]) -> (&[u8], &[u8])
     requires { 0 < length text.now }
@@ -31,7 +32,7 @@ pub(crate) fn first_line(text: &[u8]) -> (&[u8], &[u8])
     }
 }
 
-/// The text after the first line that is this word, or `None` if no line is.
+/// The text after the first line that equals `word`; `None` if no line does.
 pub(crate) fn after_line<'a>(text: &'a [u8], word: &[u8]) -> Option<&'a [u8]>
     ensures { MatchOption result (spec.lines_after word.now (spec.lines_of text.now) ≡ None)
         (λ rest. spec.lines_after word.now (spec.lines_of text.now) ≡ Some (spec.lines_of rest.now)) }

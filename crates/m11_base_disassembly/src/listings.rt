@@ -10,7 +10,8 @@ use crate::lines::first_line;
 use crate::map_fault::MapFault;
 use crate::symbols::Symbol;
 
-// The base of a section, from its line, if relocatable sections begin here; an absolute section is at 0. Error: `BadMap`.
+// The base of the section that a line describes: `base` for a relocatable section, 0 for an absolute one. Error: `BadMap`, if the line says
+// neither REL nor ABS.
 fn own_base(base: u16, line: &[u8]) -> Result<u16, MapFault>
     ensures { result ≡ spec.own_base base line.now }
 {
@@ -31,7 +32,8 @@ fn past(base: u16, size: u16) -> u16
     ((u32::from(base) + (u32::from(size) + u32::from(size % 2))) % 0o200000) as u16
 }
 
-// Where the next relocatable section begins, according to the line of the section before it. Error: `BadMap`.
+// Where the next relocatable section begins: at `base`, or past the section that the line describes if that one is relocatable and so
+// begins at `base`. Error: `BadMap`, if the line says neither REL nor ABS, or if it says REL and the size isn't an octal word.
 fn next_base(base: u16, line: &[u8]) -> Result<u16, MapFault>
     ensures { result ≡ spec.next_base base line.now }
 {
@@ -48,8 +50,8 @@ fn next_base(base: u16, line: &[u8]) -> Result<u16, MapFault>
     }
 }
 
-// The base of the section with this number, according to the lines of sections. Error: `BadMap`, if no line has the number, or that line or
-// one before it isn't a line of a section.
+// The base of the section with this number, if relocatable sections begin at `bottom`. Error: `BadMap`, if none of the lines of sections
+// has the number, or if that line or one before it doesn't describe a section.
 fn base_of(bottom: u16, number: &[u8; 3], sections: &[u8]) -> Result<u16, MapFault>
     ensures { result ≡ spec.base_of bottom number.now (lines_of sections.now) }
 {
@@ -69,7 +71,8 @@ fn base_of(bottom: u16, number: &[u8; 3], sections: &[u8]) -> Result<u16, MapFau
     Err(MapFault::BadMap)
 }
 
-// The address from which the value of a name counts: the base of its section, or 0. Error: `BadMap`.
+// The address to which the value of a name is added: the base of the name's section if the line marks the value with `R`, and 0 if it has
+// no mark. Error: `BadMap`, if there is another mark or the section has no base.
 fn counted_from(bottom: u16, sections: &[u8], line: &[u8]) -> Result<u16, MapFault>
     ensures { result ≡ spec.counted_from bottom (lines_of sections.now) line.now }
 {
@@ -80,7 +83,8 @@ fn counted_from(bottom: u16, sections: &[u8], line: &[u8]) -> Result<u16, MapFau
     }
 }
 
-// The address of a name, modulo octal 200000. Error: `BadMap`.
+// The address of the name in a line, modulo octal 200000. Error: `BadMap`, if the mark of its value isn't `R` or a blank, its section has
+// no base, or its value isn't an octal word.
 fn address_of(bottom: u16, sections: &[u8], line: &[u8]) -> Result<u16, MapFault>
     ensures { result ≡ spec.address_of bottom (lines_of sections.now) line.now }
 {
@@ -90,8 +94,8 @@ fn address_of(bottom: u16, sections: &[u8], line: &[u8]) -> Result<u16, MapFault
     }
 }
 
-/// The symbol of a line of a symbol table, with relocatable sections from `bottom` on; or `None` if its value is unknown or it is a
-/// register. Error: `BadMap`, if the line isn't one of a symbol table, or its section isn't among the lines of sections.
+/// The symbol in a line of a symbol table, if relocatable sections begin at `bottom`; `None` if its value is unknown or it is a register.
+/// Error: `BadMap`, if the line doesn't have the form of such a line, or the symbol's section has no base.
 pub(crate) fn listed_symbol(
     bottom: u16,
     sections: &[u8],

@@ -48,8 +48,8 @@ fn add_symbol(symbols: &mut Vec<Symbol>, form: Form<'_>, line: &[u8]) -> Result<
     }
 }
 
-// Adds the symbols of lines, up to the line or the end of the text that ends them. Errors: `BadMap`, if their end is missing or a line
-// before it doesn't have their form; `NoMemory`. Some of the symbols may then have been added.
+// Adds the symbols of these lines, up to the line that ends them in this form, or to the end of the text in a load map. Errors: `BadMap`,
+// if that line is missing or a line before it doesn't have the form; `NoMemory`. Some of the symbols may then have been added.
 fn add_symbols(symbols: &mut Vec<Symbol>, form: Form<'_>, lines: &[u8]) -> Result<(), MapFault>
     ensures { spec.AddsSymbols (rows_of form.entry) (lines_of lines.now) symbols.old.items symbols.new.items result }
 {
@@ -79,7 +79,7 @@ fn add_globals(symbols: &mut Vec<Symbol>, form: Form<'_>, text: &[u8]) -> Result
     }
 }
 
-// Adds the names in a symbol table, with relocatable sections from `bottom` on. Errors: `BadMap`, `NoMemory`.
+// Adds the names in a symbol table, with relocatable sections that begin at `bottom`. Errors: `BadMap`, `NoMemory`.
 fn add_table(symbols: &mut Vec<Symbol>, bottom: u16, table: &[u8]) -> Result<(), MapFault>
     ensures { spec.Adds (spec.names_in bottom (lines_of table.now)) symbols.old.items symbols.new.items result }
 {
@@ -90,8 +90,8 @@ fn add_table(symbols: &mut Vec<Symbol>, bottom: u16, table: &[u8]) -> Result<(),
 }
 
 /// Adds the symbols in a text, in the order of their lines: the globals of a link's map or of a load map, or the names in a listing, with
-/// relocatable sections from `bottom` on. Errors: `BadMap`, if its lines don't have one of these forms; `NoMemory`. Some of the symbols
-/// may then have been added.
+/// relocatable sections that begin at `bottom`. Errors: `BadMap`, if its lines don't have one of these forms; `NoMemory`. Some of the
+/// symbols may then have been added.
 pub fn add_names(symbols: &mut Vec<Symbol>, bottom: u16, text: &[u8]) -> Result<(), MapFault>
     ensures { spec.Adds (spec.symbols_of bottom text.now) symbols.old.items symbols.new.items result }
 {

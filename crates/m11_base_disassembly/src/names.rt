@@ -27,8 +27,8 @@ fn other_row(word: u16) -> Option<Row>
     found.copied()
 }
 
-/// The row whose name is written for this word: the row of the list, or of the other names if that row's name is blank. A word may
-/// have none.
+/// The row whose name is written for this word: its row in the instruction list, or in the list of other names if the name in that row is
+/// blank. `None` if the word has no such row.
 pub(crate) fn row_named(word: u16) -> Option<Row>
     ensures { result ≡ row_named word }
 {

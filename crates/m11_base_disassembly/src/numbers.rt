@@ -7,7 +7,7 @@ ghost use Rattle.m11_base_disassembly.specs.Numbers as spec;
 use crate::source::{Source, put};
 use m11_base::octal6;
 
-// Digits without leading zeros. A single 0 remains.
+// Digits without leading zeros. The last digit remains even if it is 0.
 fn significant(digits: &[u8]) -> &[u8]
     ensures text { result.now ≡ spec.significant digits.now }
     ensures room { length result.now ≤ length digits.now }

@@ -66,7 +66,7 @@ fn put_distance(line: &mut Source, distance: u16)
     }
 }
 
-// Adds a prefix and the name of an address, if it has one.
+// Adds a prefix and the name of an address; nothing if the address has no name.
 fn put_name_after(line: &mut Source, first: &[u8], nearest: Option<Symbol>, address: u16)
     requires first { length first.now ≤ 2 }
     requires room { array_vec_len line.old ≤ 20 }

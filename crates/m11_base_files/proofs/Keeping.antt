@@ -28,7 +28,7 @@ kept_at path made index d file text is found =
     let first = position-Some (has_path path) made index d found in
     kept_there path made index d file text is first.0 first.1 first.2
 
--- if no first index is found, the test fails here, and no later index is found
+-- if no index is found, the test fails at this one, and no later index is found
 none_of : (here : Bool) (i : ℕ) (rest : Option ℕ) → cond here (Some i) rest ≡ None
     → (here ≡ false) × (rest ≡ None)
 none_of true i rest h = cc

@@ -7,7 +7,7 @@ use Rattle.m11_base_files.specs.Opens.{CreatedFile, Files}
 use Rattle.m11_base_files.specs.declared.memory_files.MadeFile.{MadeFile}
 use Rattle.m11_base_files.specs.declared.memory_files.MemoryFile.{MemoryFile}
 
--- the text of a file: its bytes, all of which can be read
+-- the text of a file: all its bytes and then the end; no read fails
 abbrev pub text_of : MemoryFile → Text
 text_of file = record { bytes = file.bytes.items; ending = Ends }
 

@@ -39,19 +39,21 @@ abbrev pub HasAll : Option Files → List Bytes → Type 0
 HasAll files [] = ⊤
 HasAll files (path ∷ paths) = Has files path × HasAll files paths
 
--- a file was opened for reading; or there is none; or memory was refused
+-- the file at this path was opened for reading; or it couldn't be opened, and then there is no file at this path, if the files are known;
+-- or memory was refused
 abbrev pub Finds : {I : Type 0} → (I → Option Text) → Option Files → Bytes → Result I OpenRefusal → Type 0
 Finds text files path (Ok input) = Holds files path (text input)
 Finds text files path (Err NotOpened) = Lacks files path
 Finds text files path (Err NoMemory) = ⊤
 
--- a file was opened for two passes, each of which reads all of it; or there is none; or memory was refused
+-- the file at this path was opened for two passes, each of which reads all of it; or it couldn't be opened, and then there is no file at
+-- this path, if the files are known; or memory was refused
 abbrev pub FindsTwice : {I : Type 0} → (I → Option Text) → Option Files → Bytes → Result (I × I) OpenRefusal → Type 0
 FindsTwice text files path (Ok inputs) = Holds files path (text inputs.0) × Holds files path (text inputs.1)
 FindsTwice text files path (Err NotOpened) = Lacks files path
 FindsTwice text files path (Err NoMemory) = ⊤
 
--- the opened feeds are the files of these paths, in order
+-- the opened feeds are the files at these paths, in order
 abbrev pub AreFiles : {I : Type 0} → (I → Option Text) → Option Files → List Bytes → List I → Type 0
 AreFiles text files [] [] = ⊤
 AreFiles text files [] (input ∷ inputs) = ⊥
@@ -59,7 +61,7 @@ AreFiles text files (path ∷ paths) [] = ⊥
 AreFiles text files (path ∷ paths) (input ∷ inputs) =
     Holds files path (text input) × AreFiles text files paths inputs
 
--- this path is the first of these without a file
+-- this is the first of these paths at which there is no file, if the files are known
 abbrev pub IsFirstLacking : Option Files → List Bytes → Bytes → Type 0
 IsFirstLacking files paths path = (before : List Bytes) × (more : List Bytes)
     × (paths ≡ before ++ path ∷ more) × HasAll files before × Lacks files path
@@ -84,7 +86,7 @@ abbrev pub Creates : {O : Type 0} → Bytes → Option Files → Option Files �
 Creates path old new (Ok output) = new ≡ creating (path ∷ []) old
 Creates path old new (Err refusal) = new ≡ old
 
--- these created files, where the first one at this path, if there is one, now has the bytes that an output has written
+-- these created files, where the first one at this path, if there is one, now has `text` as its bytes
 abbrev pub kept_among : Bytes → Option Bytes → List CreatedFile → List CreatedFile
 kept_among path text [] = []
 kept_among path text (made ∷ more) =
@@ -100,7 +102,8 @@ IsEmptiedSome text files None None = ⊤
 IsEmptiedSome text files (Some path) (Some output) = IsEmptied files (text output)
 IsEmptiedSome text files path output = ⊥
 
--- these files, where the one created for an output, if there is an output, now has all bytes that the output has accepted
+-- these files, where the first one created at the path now has the bytes that `text` returns for the output; unchanged if there is no path
+-- or no output
 abbrev pub keeping_some : {O : Type 0} → (O → Option Bytes) → Option (Bor Bytes) → Option O → Option Files
     → Option Files
 keeping_some text (Some path) (Some output) files = keeping path.now (text output) files

@@ -87,7 +87,7 @@ impl<F: Read + Drop> Feed for FileFeed<F> {
 
 impl<F: Read + Drop> Stage<F> {
     // Reads the next byte of a file that has no buffer: of one that hasn't been read, or that is closed. `None` is the end; a lost
-    // file fails, and so does a closed one whose count of failures is at its last value.
+    // file fails, and so does a closed one whose count of failures is at its greatest value.
     // speed: a function of its own, so that its caller can be inlined.
     #[inline(never)]
     fn next_without_buffer(&mut self) -> Result<Option<u8>, DeviceFault>

@@ -11,7 +11,7 @@ use std::alloc::Global;
 /// A file: its path and its bytes.
 #[derive(Debug, Drop)]
 pub struct MemoryFile {
-    /// The path, as the words of a command name it.
+    /// The path, as written on the command line.
     pub path: String,
     /// All of its bytes.
     pub bytes: Vec<u8>,
@@ -20,14 +20,14 @@ pub struct MemoryFile {
 /// A file created by a command.
 #[derive(Debug, Drop)]
 pub struct MadeFile {
-    /// The path, as the words of a command name it.
+    /// The path, as written on the command line.
     pub path: String,
     /// The bytes written to it, or `None` until its output is handed back.
     pub kept: Option<Vec<u8>>,
 }
 
-/// Opens the files stored in memory, and creates others beside them. A created file can't be read by the same command. A path opens
-/// if a stored file has it, and a file can be created at every path unless memory is refused.
+/// Opens the files stored in memory, and creates others beside them. A created file can't be read by the same command. A path can
+/// be opened if a stored file has it, and a file can be created at every path unless memory is refused.
 #[derive(Drop)]
 pub struct MemoryFiles<'a> {
     alloc: Global,
@@ -37,7 +37,7 @@ pub struct MemoryFiles<'a> {
 }
 
 impl<'a> MemoryFiles<'a> {
-    /// Opens these stored files; no file has been created yet.
+    /// A value that opens these stored files. It has created no file yet.
     pub fn new(alloc: Global, stored: &'a [MemoryFile]) -> MemoryFiles<'a>
         ensures files { ⟦<MemoryFiles<'a> as Opens>⟧.files result ≡ Some (files_of stored.entry.now []) }
         ensures refusals { ⟦<MemoryFiles<'a> as Opens>⟧.refusals result ≡ 0 }

@@ -4,8 +4,8 @@ use std::fs;
 use std::os::fd::{AsRawFd, RawFd};
 use std::rt::Files;
 
-/// Up to three files with the descriptors of standard streams that the caller closed. The system gives an opened file the lowest
-/// free descriptor: without these, a report could be written into an object.
+/// Up to three files with the descriptors of standard streams that were closed when this value was created. The system gives an opened
+/// file the lowest free descriptor: without the stand-ins, a report could be written into an object.
 #[derive(Drop)]
 pub(crate) struct StandIns<F> {
     first: Option<F>,
@@ -48,12 +48,12 @@ where
     }
 }
 
-// The device that ends at once.
+// The null device: a read of it finds the end at once.
 const NULL_DEVICE: &str = "/dev/null";
 
-// The files to open, in this order: for standard input the null device, which ends at once; for the others the root directory,
-// which can't be written, neither by its descriptor nor by a path such as /dev/stdout; and if that can't be opened, the null
-// device, for reading only. The number with each path is the greatest descriptor that its file may have.
+// The files to try, in this order. The null device stands in for standard input. The root directory stands in for the other streams: it
+// can't be written to, either through its descriptor or through a path such as /dev/stdout. If it can't be opened, the null device, opened
+// for reading only, stands in for them. The number with each path is the greatest descriptor that its file may have.
 const FILES: [(&str, RawFd); 3] = [(NULL_DEVICE, INPUT), ("/", ERROR), (NULL_DEVICE, ERROR)];
 
 // A stand-in for the first closed standard stream, or none if all are open or no file can be opened for it.

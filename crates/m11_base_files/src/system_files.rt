@@ -14,9 +14,10 @@ use std::random::RandomSource;
 use std::rt::Files;
 use std::{fs, io};
 
-/// Opens and creates files through the runtime, with buffers: a created file has all its bytes once its sink has been flushed, and a
-/// file that is read has its buffer only from its first read to its end. The texts of files are unknown. No opened file gets the
-/// descriptor of a standard stream, even if the caller closed some: stand-ins replace those as long as this value exists.
+/// Opens and creates files through the runtime, with buffers: a created file has all its bytes once its sink has been flushed, and a file
+/// that is read has a buffer only from its first read until its end is reached. The texts of files are unknown. No opened file gets the
+/// descriptor of a standard stream, even if some of these streams were closed when this value was created: as long as this value exists,
+/// stand-ins take the place of the closed streams, if they can be opened.
 #[derive(Drop)]
 pub struct SystemFiles<'a, R: Files> {
     rt: &'a R,
@@ -82,7 +83,7 @@ impl<'a, R: Files + AllocGlobal + RandomSource> Opens for SystemFiles<'a, R> {
         drop(output.into_writer());
     }
 
-    // The seed is drawn anew for each run, so that nobody can prepare a file for it.
+    // The seed is drawn anew for each run, so that nobody can prepare a file whose names collide in the maps of the run.
     fn seed(&self) -> Seed {
         Seed::drawn(self.rt)
     }
@@ -98,7 +99,7 @@ fn opened<R: Files>(rt: &R, path: &str, refusals: &mut u64) -> Result<R::File, O
     }
 }
 
-// A buffered sink of a file. Error: `NoMemory`.
+// A buffered sink that writes to a file. Error: `NoMemory`.
 fn buffered_sink<R: Files + AllocGlobal>(
     rt: &R,
     file: R::File,

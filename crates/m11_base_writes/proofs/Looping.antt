@@ -1,11 +1,11 @@
--- Writes of a list, one of its items after another. (This project's own.)
+-- Writes that a loop makes for the items of a list, one item after another. (This project's own.)
 use Rattle.std.proofs.Common.{◌≡◌, List, [], ◌++◌, Result, Ok, Err, sym, subst}
 use Rattle.m11_base_writes.proofs.Writing.{gains_nothing, stops_before, writes_then}
 use Rattle.m11_base_writes.specs.States.{OutputState}
 use Rattle.m11_base_writes.specs.Writes.{Gains, Kinds, Stops, Write, Writes}
 
 module _ {O E : Type 0} (kinds : Kinds O E) where
-  -- what is left to write leads to all writes
+  -- whatever becomes of the writes left, the same becomes of all writes
   abbrev pub Leads : Type 0 → (O → OutputState) → (O → OutputState) → List (Write O) → List (Write O) → Type 0
   Leads A start now rest all =
       (new : O → OutputState) (result : Result A E) → Writes kinds now new rest result → Writes kinds start new all result

@@ -1,4 +1,4 @@
--- What one output of a program took is a write. (This project's own.)
+-- Bytes put to one output of a program are a write to it. (This project's own.)
 use Rattle.std.proofs.Common.{◌≡◌, ◌≢◌, ℕ, false, List, [], ◌∷◌, Option, Some, Result, Ok, Err, IfErr, refl}
 use Rattle.std.specs.Io.KnownBytes.{Appends}
 use Rattle.m11_base_writes.proofs.Writing.{keeps, put_writes}

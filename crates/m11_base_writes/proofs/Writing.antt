@@ -88,7 +88,7 @@ module _ {O E : Type 0} (kinds : Kinds O E) where
       → Stops kinds a b (xs ++ ys) fault
   stops_before a b xs ys fault h = ends_before a b xs ys (kinds.stop fault) h
 
-  -- writes that stopped after others that were made
+  -- if some writes were made, and the writes after them ended early, then all of them together ended early
   pub stops_after : (a b c : O → OutputState) (xs ys : List (Write O)) (fault : E) → Gains kinds a b xs
       → Stops kinds b c ys fault → Stops kinds a c (xs ++ ys) fault
   stops_after a b c xs ys fault g h = ends_after a b c xs ys (kinds.stop fault) g h
@@ -98,7 +98,7 @@ module _ {O E : Type 0} (kinds : Kinds O E) where
   writes_then a b c xs ys (Ok done) g h = gains_then a b c xs ys g h
   writes_then a b c xs ys (Err fault) g h = stops_after a b c xs ys fault g h
 
-  -- a call has returned the fault
+  -- if writes ended early with a fault and a call returned this fault, they are the writes of the call
   pub stopped_alone : {A : Type 0} (a b : O → OutputState) (xs : List (Write O)) (fault : E) (result : Result A E)
       → Stops kinds a b xs fault → IsErrAnd result (λ f. f ≡ fault) → Writes kinds a b xs result
   stopped_alone a b xs fault (Ok x) h e = absurd e
@@ -109,7 +109,7 @@ module _ {O E : Type 0} (kinds : Kinds O E) where
   stopped_first a b xs ys fault result h e =
       stopped_alone a b (xs ++ ys) fault result (stops_before a b xs ys fault h) e
 
-  -- memory was refused before a write
+  -- if no write was made and nothing changed, the writes ended between two of them
   pub refused_between : (a : O → OutputState) (xs : List (Write O)) → StopsBetween kinds a a xs
   refused_between a xs = record { done = []; more = xs; split = refl; gains = gains_nothing a }
 
@@ -152,7 +152,7 @@ module _ {O E : Type 0} (kinds : Kinds O E) where
     others_stay other true e h = absurd (h (kinds.same other output e))
     others_stay other false e h = ap (λ o. o.faults) (others other e)
 
-    -- what one output took is a write
+    -- bytes put to one output are a write to it
     pub put_writes : {A : Type 0} (bytes : List ℕ) (fault : E) (result : Result A E)
         → kinds.stop fault ≡ Some (In output) → Puts (old output) (new output) bytes fault result
         → Writes kinds old new (to_output output bytes ∷ []) result
@@ -260,7 +260,7 @@ module _ {O E : Type 0} (kinds : Kinds O E) where
     faults = g.faults;
   }
 
-  -- writes that were made, and then a flush that failed
+  -- if writes were made and the flush after them ended early, and a call returned the fault, then the call finishes early
   pub flush_stops : {A : Type 0} (a b c : O → OutputState) (xs : List (Write O)) (outputs : List O) (fault : E) (result : Result A E)
       → Gains kinds a b xs → Stops kinds b c (flushes outputs) fault → IsErrAnd result (λ f. f ≡ fault)
       → Finishes kinds a c xs outputs result
@@ -269,7 +269,7 @@ module _ {O E : Type 0} (kinds : Kinds O E) where
       let P : E → Type 0 = λ these. Stops kinds a c (xs ++ flushes outputs) these in
       subst P (sym e) (stops_after a b c xs (flushes outputs) fault g h)
 
-  -- writes that stopped
+  -- if writes ended early and a call returned the fault, the call finishes early
   pub finishes_early : {A : Type 0} (a b : O → OutputState) (xs : List (Write O)) (outputs : List O) (fault : E) (result : Result A E)
       → Stops kinds a b xs fault → IsErrAnd result (λ f. f ≡ fault) → Finishes kinds a b xs outputs result
   finishes_early a b xs outputs fault (Ok done) h e = absurd e

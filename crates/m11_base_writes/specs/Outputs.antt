@@ -46,7 +46,7 @@ output_itself Product = refl
 output_itself Report = refl
 output_itself Messages = refl
 
--- these outputs, with the faults of a program, some of which say that writes have ended early
+-- the outputs of a program, with its faults; `stop` returns where writes ended early, if a fault says that they did
 abbrev pub kinds_of : {E : Type 0} → (E → Option (writes.Stop Output)) → writes.Kinds Output E
 kinds_of stop = record { is = is_output; same = same_output; itself = output_itself; stop = stop }
 

@@ -5,7 +5,7 @@ use Rattle.m11_base.specs.Devices.{Bytes, Rises}
 use Rattle.m11_base.specs.Sink.{AppendsBeginning}
 use Rattle.m11_base.specs.declared.sink.Sink.{Ghosts}
 
--- an output: all that it has accepted, if that is known, its count of failures, and the number of last bytes that it holds back
+-- an output: all that it has accepted, if that is known, its count of failures, and how many of the last bytes it still holds back
 pub record OutputState : Type 0 where
   pub text : Option Bytes
   pub faults : ℕ

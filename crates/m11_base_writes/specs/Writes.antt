@@ -1,4 +1,4 @@
--- Writes to several outputs in one order, and what became of them. (This project's own.)
+-- Writes to several outputs in one order, and which of them were made. (This project's own.)
 use Rattle.std.specs.Prelude.{◌≡◌, ◌≢◌, Bool, true, List, [], ◌∷◌, ◌++◌, map, ⊤, Option, Some, None, Result, Ok, Err, if◌then◌else◌}
 use Rattle.std.specs.List.{flat_map}
 use Rattle.std.specs.Io.KnownBytes.{Appends}
@@ -7,12 +7,12 @@ use Rattle.m11_base_writes.specs.States.{OutputState}
 
 -- ---- the outputs of a program
 
--- where writes end early: in one to this output, which failed; or between two, where memory was refused
+-- where writes ended early: in a write to this output, which failed; or between two writes, where memory was refused
 pub data Stop (O : Type 0) : Type 0 where
   In : O → Stop O
   Between : Stop O
 
--- the outputs of a program, with a test whether two are the same, and its faults, some of which say that writes have ended early
+-- the outputs of a program, with a test of whether two of them are the same, and its faults, some of which say that writes ended early
 pub record Kinds (O E : Type 0) : Type 0 where
   pub is : O → O → Bool
   pub same : (a b : O) → is a b ≡ true → a ≡ b
@@ -49,8 +49,8 @@ pub record Gains {O E : Type 0} (kinds : Kinds O E) (old new : O → OutputState
   pub texts : GainTexts kinds old new writes
   pub faults : (output : O) → (new output).faults ≡ (old output).faults
 
--- this output failed in one of the writes, and no other output failed: the writes before it are whole, a prefix of that one was
--- written, and nothing after it
+-- this output failed in one of the writes, and no other output failed: the writes before that one are whole, a prefix of its bytes was
+-- written, and no write after it was made
 pub record StopsIn {O E : Type 0} (kinds : Kinds O E) (failed : O) (old new : O → OutputState) (writes : List (Write O))
     : Type 0 where
   pub done : List (Write O)
@@ -62,7 +62,7 @@ pub record StopsIn {O E : Type 0} (kinds : Kinds O E) (failed : O) (old new : O 
   pub failure : Rises (old failed).faults (new failed).faults
   pub others : (output : O) → output ≢ failed → (new output).faults ≡ (old output).faults
 
--- the first of the writes, perhaps none or all of them, were made, each of them whole, and no output failed
+-- a prefix of the writes, perhaps none or all of them, was made, each write whole, and no output failed
 pub record StopsBetween {O E : Type 0} (kinds : Kinds O E) (old new : O → OutputState) (writes : List (Write O)) : Type 0 where
   pub done : List (Write O)
   pub more : List (Write O)
@@ -85,7 +85,7 @@ Writes kinds old new writes (Err stopped) = Stops kinds old new writes stopped
 
 -- ---- the end of a run
 
--- a flush of outputs, in this order, is a list of writes of no bytes: each of them may fail, and none adds a byte
+-- a flush of these outputs, in order, as a list of writes of no bytes: each of these writes may fail, and none adds a byte
 abbrev pub flushes : {O : Type 0} → List O → List (Write O)
 flushes outputs = map (λ output. to_output output []) outputs
 

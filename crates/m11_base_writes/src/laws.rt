@@ -5,7 +5,7 @@ ghost use Rattle.m11_base.specs.Sink.{handed_on};
 ghost use Rattle.m11_base_writes.specs.States.{OutputState};
 ghost use Rattle.m11_base_writes.specs.Writes.{Kinds, LeavesBeginnings, Stops, Write, flushes};
 
-/// Wherever writes end early, each output has gained a prefix of the bytes that all of them would have added to it, and no other bytes.
+/// Wherever writes end early, each output has gained a prefix of the bytes that all the writes would have added to it, and no other bytes.
 /// The same holds if a flush after them fails.
 pub fn early_ends_leave_beginnings<O, E>()
     ensures writes { (kinds : Kinds O E) (old new : O → OutputState) (writes : List (Write O)) (fault : E)

@@ -23,7 +23,7 @@ pub enum Output {
 pub trait OutputFault: Copy {
     ghost use Rattle.m11_base_writes.specs.declared.outputs.Output.{Output};
 
-    // Where writes have ended early, if a fault says so: in an output, or between two writes.
+    // Where the writes of a call ended early, if the fault says that they did: in an output, or between two writes.
     ghost stop: { Self → Option (Stop Output) };
 
     /// The fault of a failed write to an output.

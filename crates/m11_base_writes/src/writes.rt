@@ -16,8 +16,8 @@ pub fn put_or_fail<S: Sink, E: Copy>(sink: &mut S, bytes: &[u8], fault: E) -> Re
     }
 }
 
-/// Passes all held bytes of a sink to its device. This adds nothing to the bytes that the sink has accepted. On a failure `fault`,
-/// which names the output, is returned.
+/// Passes all held bytes of a sink to its device. This adds nothing to the bytes that the sink has accepted. If the sink fails, returns
+/// `fault`, which names the output.
 pub fn flush_or_fail<S: Sink, E: Copy>(sink: &mut S, fault: E) -> Result<(), E>
     ensures puts { Puts (output_of S.Sink sink.old) (output_of S.Sink sink.new) [] fault result }
     ensures all { OnOk result (S.held sink.new ≡ 0) }

@@ -1,4 +1,4 @@
--- The statements about the feeds of an assembly, for their texts and counts of failures.
+-- What is true of the feeds of an assembly is true of their inputs, which are the texts and counts of failures of the feeds.
 use Rattle.std.proofs.Common.{ℕ, List, inl, inr, ap, Option, Result, Ok, Err}
 use Rattle.m11_base_writes.specs.Passes.{pass_of}
 use Rattle.m11_asm.specs.Passes.{ReadsFirst, ReadsSecond}

@@ -9,7 +9,7 @@ use Rattle.m11_cli_tasks.specs.Tasks.{Plans}
 use Rattle.m11_cli_tasks.specs.declared.tasks.Task.{Task}
 use Rattle.m11_cli_tasks.specs.declared.tasks.Task.TheVariants as task
 
--- if the words ask for a task, its outcome is an outcome of the words
+-- if a command line asks for a task, the outcome of the task is an outcome of the command line
 pub carried : (words : List Text) (t : Task) (outcome : Outcome) (old new : Store) (before after : Streams)
     → Plans words (Ok t) → Carries t outcome old new before after → HasOutcome words outcome old new before after
 carried words (task.Asm asm) (Usage fault) old new before after planned h = absurd h

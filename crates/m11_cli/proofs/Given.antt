@@ -1,4 +1,4 @@
--- How far the feeds of an assembly were read, for their texts.
+-- The feeds of an assembly and their inputs, which are the texts and counts of failures of the feeds, were read equally far.
 use Rattle.std.proofs.Common.{◌≡◌, ◌∙◌, ℕ, List, [], ◌∷◌, map, inl, inr, ap, sym, refl, Option, Result, Ok, Err}
 use Rattle.std.proofs.lemmas.List.{length-map}
 use Rattle.m11_base_writes.specs.Passes.{pass_of}

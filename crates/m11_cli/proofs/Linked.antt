@@ -1,4 +1,4 @@
--- The statements about the feeds of a link, for their texts and counts of failures.
+-- What is true of the feeds of a link is true of their inputs, which are the texts and counts of failures of the feeds.
 use Rattle.std.proofs.Common.{◌≡◌, ℕ, List, inl, inr, refl, ap, option_map, Option, Some, None, Result, Ok, Err}
 use Rattle.std.specs.Borrow.{Bor}
 use Rattle.m11_base.specs.Devices.{Bytes}
@@ -19,7 +19,7 @@ use Rattle.m11_link.specs.declared.emit.LinkDone.{LinkDone}
 use Rattle.m11_cli.specs.Driver.{got, known}
 use Rattle.m11_cli.proofs.Sources.{give, none, one, seen}
 
--- the view of an output that may be left out
+-- the state of an output that may be missing
 abbrev pub seen_output : {S : Type 0} → Ghosts S → Option S → Option OutputState
 seen_output sinks map = option_map (output_of sinks) map
 
@@ -32,7 +32,7 @@ pub same_output : {S : Type 0} (sinks : Ghosts S) (map : Option S)
 same_output sinks None = refl
 same_output sinks (Some s) = refl
 
--- the view of an optional output is empty, and is handed back, like the output
+-- if an optional output is empty, so is its state; handed back, both leave the same files
 pub emptied : {S : Type 0} (sinks : Ghosts S) (files : Option Files) (path : Option (Bor (List ℕ))) (map : Option S)
     → IsEmptiedSome sinks.text files path map
     → IsEmptiedSome (λ output. output.text) files path (seen_output sinks map)

@@ -1,4 +1,4 @@
--- The statements about feeds, for their texts and counts of failures.
+-- What is true of feeds is true of their inputs: the texts of the feeds, if they are known, with their counts of failures.
 use Rattle.std.proofs.Common.{ℕ, List, [], ◌∷◌, map, Option}
 use Rattle.m11_base.specs.Feed.{Text, GiveAll, NoneFailed, OneFailed}
 use Rattle.m11_cpu_machine.specs.Dialogue.{Input, input_of}
@@ -8,7 +8,7 @@ module _ {F : Type 0} (text : F → Option Text) (faults : F → ℕ) where
   abbrev pub seen : List F → List Input
   seen feeds = map (λ x. input_of (text x) (faults x)) feeds
 
-  -- opened files, by their views
+  -- if feeds are the files at these paths, so are their inputs
   pub are : (files : Option Files) (paths : List (List ℕ)) (feeds : List F) → AreFiles text files paths feeds
       → AreFiles (λ s. s.text) files paths (seen feeds)
   are files [] [] h = tt

@@ -50,7 +50,8 @@ RefusesFile inputs outputs old new reported reported' = Rises old.refusals new.r
 
 -- ---- an assembly
 
--- the text, the count of failures and the bytes held back of an output, for the contracts of an assembly and of a link
+-- the ghosts of an output's state, for the contracts of an assembly and of a link: its text, its count of failures and the number of bytes
+-- held back
 abbrev pub known : Ghosts OutputState
 known = record { text = λ output. output.text; faults = λ output. output.faults; held = λ output. output.held }
 
@@ -58,7 +59,7 @@ known = record { text = λ output. output.text; faults = λ output. output.fault
 abbrev pub got : OutputState → Option Bytes
 got output = handed_on output.text output.held
 
--- the object of an assembly or the tape of a link, the listing or the map if there is one, and the messages
+-- the outputs of an assembly or of a link: the object or the tape, the listing or the map if there is one, and the messages
 abbrev pub outputs : OutputState → Option OutputState → OutputState → Outputs
 outputs product report messages = outputs_of known known known product report messages
 
@@ -141,7 +142,7 @@ MayRun sim old new before after result = RunsTape sim old new before after resul
 
 -- ---- a command
 
--- the paths that a task reads, and those that it writes
+-- the paths of the files that a task reads, and of those that it writes
 abbrev pub inputs_of : Task → List Bytes
 inputs_of (task.Asm asm) = asm_inputs asm
 inputs_of (task.Link link) = link_inputs link
@@ -152,9 +153,9 @@ outputs_of_task (task.Asm asm) = asm_outputs asm
 outputs_of_task (task.Link link) = link_outputs link
 outputs_of_task (task.Sim sim) = []
 
--- the outcome of a task: one of its files can't be opened or created, and is reported; or memory was refused while they were opened; or the
--- outcome of an assembly of its sources, of a link of its objects, or of a run of its tape with the console; only a run reads input or
--- prints
+-- A task has this outcome. If one of its files can't be opened or created, the path of that file is reported. Otherwise its sources are
+-- assembled, its objects linked or its tape run with the console, unless memory was refused while the files were opened. Only a run reads
+-- input or prints.
 abbrev pub Carries : Task → Outcome → Store → Store → Streams → Streams → Type 0
 Carries task NotOpened old new before after = (after.input ≡ before.input) × (after.printed ≡ before.printed)
     × RefusesFile (inputs_of task) (outputs_of_task task) old new before.reported after.reported
@@ -165,15 +166,15 @@ Carries (task.Link link) (Link result) old new before after = (after.input ≡ b
 Carries (task.Sim sim) (Sim result) old new before after = MayRun sim old new before after result
 Carries task outcome old new before after = ⊥
 
--- the command line yields no task: it asks for help, or is refused, or memory was refused; this is explained, and no file is opened; or
--- its task is carried out
+-- A command line has this outcome. If it asks for help, if it is refused, or if memory was refused while it was read, it yields no task:
+-- then no file is opened, and help or the parser's refusal, if there is either, is written. Otherwise its task is carried out.
 abbrev pub HasOutcome : List Text → Outcome → Store → Store → Streams → Streams → Type 0
 HasOutcome words (Usage fault) old new before after = Plans words (Err fault) × (new ≡ old)
     × (after.input ≡ before.input) × Explains fault before.printed after.printed before.reported after.reported
 HasOutcome words outcome old new before after =
     (task : Task) × Plans words (Ok task) × Carries task outcome old new before after
 
--- a command line has its outcome, and then the line of the outcome's fault is reported
+-- a command line has this outcome, and then the line for the outcome's fault, if it has one, is reported
 abbrev pub Obeys : List Text → Outcome → Store → Store → Streams → Streams → Type 0
 Obeys words outcome old new before after =
     (reported : OutputState) × HasOutcome words outcome old new before (record after { reported = reported })

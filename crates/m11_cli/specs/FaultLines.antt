@@ -36,7 +36,7 @@ added (asm.Unfold inner) = decimal (unfolded.number_of inner) ∷ unfolded.name_
 added asm.TooMuchSource = []
 added asm.NoMemory = []
 
--- the line of a fault of an assembly
+-- the line for a fault of an assembly
 abbrev pub asm_line : AsmFault → Bytes
 asm_line fault = line_for (codes "ASM") (number_of fault) (name_of fault) (added fault)
 
@@ -65,12 +65,12 @@ link_added link.TooMuch = []
 link_added link.TextOutside = []
 link_added link.NoMemory = []
 
--- the line of a fault of a link
+-- the line for a fault of a link
 abbrev pub link_line : LinkFault → Bytes
 link_line fault =
     line_for (codes "LINK") (link_fault_number fault) (link_fault_name fault) (link_added fault)
 
--- the line of an outcome; empty if there is no fault, and for help, a command line that the parser refuses and a file that can't be
+-- the line for an outcome; empty if there is no fault, and for help, a command line that the parser refuses and a file that can't be
 -- opened or created, which have texts of their own
 abbrev pub line_of : Outcome → Bytes
 line_of (Usage fault) = usage_line fault

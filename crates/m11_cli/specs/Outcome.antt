@@ -1,6 +1,6 @@
 -- The outcome of a command, and its exit status. (This project's own: 0 done, halted or help; 1 flagged lines, messages of a link, or a
--- stop neither at HALT nor for a device; 2 a refused command line; 3 a device, or a file that can't be opened or created; 4 a malformed
--- object or tape, or a tape that doesn't fit memory; 5 no memory; 6 a limit other than that of steps.)
+-- stop neither at HALT nor for a device; 2 a refused command line; 3 a device that failed, or a file that can't be opened or created; 4 a
+-- malformed object or tape, or a tape that doesn't fit memory; 5 no memory; 6 a limit other than that of steps.)
 use Rattle.std.specs.Prelude.{◌≡◌, ⊤, ℕ, Ok, Err, ◌==◌, if◌then◌else◌}
 use Rattle.m11_asm_faults.specs.declared.fault.AsmFault.{AsmFault}
 use Rattle.m11_asm_faults.specs.declared.fault.AsmFault.TheVariants as asm

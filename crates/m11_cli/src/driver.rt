@@ -64,7 +64,7 @@ where
     report_outcome(&outcome, err)
 }
 
-// Reports the line of the outcome's fault, if there is one, and returns the exit status, which shows the fault even if the line can't be
+// Reports the line for the outcome's fault, if there is one, and returns the exit status, which shows the fault even if the line can't be
 // written.
 #[tactic(auto, using(m11_cli_reports::proofs::Reporting::reports))]
 fn report_outcome<E: Sink>(outcome: &Outcome, err: &mut E) -> u8

@@ -17,12 +17,13 @@ use m11_link::LinkFault;
 use m11_obj::{BlockFault, RecordFault};
 use m11_unfold_rules::UnfoldFault;
 
-/// Writes the line of the outcome's fault: `?M11`, the command, the fault's number and its name. The line of a failed write also has the
-/// name of the output, as in `?M11 ASM 2 Write OBJECT`. The line of a fault of unfolding, of a block or of a record also has the number and
+/// Writes the line for the outcome's fault: `?M11`, the command, the fault's number and its name. The line for a failed write also has the
+/// name of the output, as in `?M11 ASM 2 Write OBJECT`. The line for a fault of unfolding, a block or a record also has the number and
 /// the name of this inner fault, as in `?M11 ASM 5 Unfold 1 TooDeep` and `?M11 LINK 3 Block 3 BadSum`. Nothing is written if there is no
 /// fault, nor for help, a command line that the parser refuses or a file that can't be opened or created, which have texts of their own.
 ///
-/// Error: `Device`, if the sink fails after accepting a prefix of the line. No memory is allocated.
+/// Error: `Device`, if the sink fails or accepts none of the bytes left; a prefix of the line was put then, perhaps none of it. No memory
+/// is allocated.
 pub fn fault_line<S: Sink>(outcome: &Outcome, sink: &mut S) -> Result<(), PutFault>
     ensures whole { OnOk result (Appends (S.text sink.old) (S.text sink.new) (line_of outcome.now)) }
     ensures sound { OnOk result (S.faults sink.new ≡ S.faults sink.old) }
@@ -33,7 +34,7 @@ pub fn fault_line<S: Sink>(outcome: &Outcome, sink: &mut S) -> Result<(), PutFau
     put_all(sink, fault_text(outcome).as_bytes())
 }
 
-// The line of the outcome's fault, or the empty text where `fault_line` writes nothing.
+// The line for the outcome's fault, or the empty text where `fault_line` writes nothing.
 #[tactic(auto, unfolding(m11_cli_reports::proofs::Decimals::decimals))]
 fn fault_text(outcome: &Outcome) -> &'static str
     ensures { result.now ≡ line_of outcome.now }
@@ -47,7 +48,7 @@ fn fault_text(outcome: &Outcome) -> &'static str
     }
 }
 
-// The line of a fault of an assembly.
+// The line for a fault of an assembly.
 #[tactic(auto, unfolding(m11_cli_reports::proofs::Decimals::decimals))]
 fn asm_text(fault: AsmFault) -> &'static str
     ensures { result.now ≡ asm_line fault }
@@ -65,7 +66,7 @@ fn asm_text(fault: AsmFault) -> &'static str
     }
 }
 
-// The line of a fault of an unfolding.
+// The line for a fault of unfolding.
 #[tactic(auto, unfolding(m11_cli_reports::proofs::Decimals::decimals))]
 fn unfold_text(fault: UnfoldFault) -> &'static str
     ensures { result.now ≡ asm_line (Unfold fault) }
@@ -79,7 +80,7 @@ fn unfold_text(fault: UnfoldFault) -> &'static str
     }
 }
 
-// The line of a fault of a link.
+// The line for a fault of a link.
 #[tactic(auto, unfolding(m11_cli_reports::proofs::Decimals::decimals))]
 fn link_text(fault: LinkFault) -> &'static str
     ensures { result.now ≡ link_line fault }
@@ -105,7 +106,7 @@ fn link_text(fault: LinkFault) -> &'static str
     }
 }
 
-// The line of a fault of an object's block.
+// The line for a fault in reading an object's block.
 #[tactic(auto, unfolding(m11_cli_reports::proofs::Decimals::decimals))]
 fn block_text(fault: BlockFault) -> &'static str
     ensures { result.now ≡ link_line (Block fault) }
@@ -122,7 +123,7 @@ fn block_text(fault: BlockFault) -> &'static str
     }
 }
 
-// The line of a fault of an object's record.
+// The line for a fault in an object's record.
 #[tactic(auto, unfolding(m11_cli_reports::proofs::Decimals::decimals))]
 fn record_text(fault: RecordFault) -> &'static str
     ensures { result.now ≡ link_line (Record fault) }

@@ -1,4 +1,4 @@
-//! The commands of the tool chain: the files of a task, its run, the exit status, and the line of its fault.
+//! The commands of the tool chain: the files of a task, its run, the exit status, and the line for its fault.
 #![tactic(auto)]
 
 mod driver;

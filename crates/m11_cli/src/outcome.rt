@@ -14,11 +14,11 @@ use m11_link::{LinkDone, LinkFault};
 pub enum Outcome {
     /// The command line is refused, or asks for help, or memory was refused while it was read.
     Usage(UsageFault),
-    /// `asm`: the result of the assembly, or NoMemory if memory was refused while files were opened.
+    /// `asm`: the result of the assembly, or `NoMemory` if memory was refused while files were opened.
     Asm(Result<AsmDone, AsmFault>),
-    /// `link`: the result of the link, or NoMemory if memory was refused while files were opened.
+    /// `link`: the result of the link, or `NoMemory` if memory was refused while files were opened.
     Link(Result<LinkDone, LinkFault>),
-    /// `sim`: the result of the run, or NoMemory if memory was refused while the tape was opened. A tape that could not be loaded is a
+    /// `sim`: the result of the run, or `NoMemory` if memory was refused while the tape was opened. A tape that could not be loaded is a
     /// fault of the run.
     Sim(Result<SimDone, SimFault>),
     /// A file could not be opened or created, so nothing ran.
@@ -26,8 +26,8 @@ pub enum Outcome {
 }
 
 /// The exit status of a command: 0 done, halted or help; 1 done with flagged lines or messages, or a run that stopped neither at HALT nor
-/// for a device; 2 a refused command line; 3 a device, or a file that can't be opened or created; 4 a malformed object or tape, or a tape
-/// that doesn't fit memory; 5 no memory; 6 a limit other than that of steps.
+/// for a device; 2 a refused command line; 3 a device that failed, or a file that can't be opened or created; 4 a malformed object or tape,
+/// or a tape that doesn't fit memory; 5 no memory; 6 a limit other than that of steps.
 pub fn status(outcome: &Outcome) -> u8
     ensures { result ≡ status_of outcome.now }
 {

@@ -9,7 +9,8 @@ use Rattle.m11_cli_chain.specs.Steps.{AreObjectsOf, AssembliesFail, AssemblyFail
 use Rattle.m11_cli_chain.specs.declared.fault.ChainFault.{ChainFault}
 use Rattle.m11_cli_chain.specs.declared.fault.ChainFault.TheVariants as chain
 
--- after some assemblies the outcome of the others is the outcome of all
+-- after the first assemblies, which made `objects`, the other ones decide the outcome of all: their objects come after `objects`, and their
+-- fault is the fault of all
 pub record Continues (all rest : List (List Bytes)) (objects : List Bytes) : Type 0 where
   pub gives : (more : List Bytes) → AreObjectsOf rest more → AreObjectsOf all (objects ++ more)
   pub fails : (stopped : ChainFault) → AssembliesFail rest stopped → AssembliesFail all stopped

@@ -37,7 +37,7 @@ module _ {F : Type 0} (text : F → Option Text) where
     are_known feeds sources (rest_is (text feed) (whole_text source) (map text feeds) (map whole_text sources) e),
   )
 
-  -- the texts of a slice of the feeds
+  -- if the texts of feeds are known, the texts of a slice with the same feeds are known
   pub known_slice : (slice feeds : List F) (sources : List Bytes) → slice ≡ feeds → map text feeds ≡ map whole_text sources
       → AreKnown text slice sources
   known_slice slice feeds sources same e = subst (λ (fs : List F). AreKnown text fs sources) (sym same) (are_known feeds sources e)

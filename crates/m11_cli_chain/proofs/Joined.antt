@@ -136,7 +136,7 @@ module _ (parts_law : PartsLaw) (load_law : LoadLaw) (texts : List (List Bytes))
 abbrev pub ConsistentLaw : Type 0
 ConsistentLaw = (lines : List NumberedLine) → IsConsistent (source_of lines)
 
--- a link of such sources is refused only for sizes
+-- a link of the objects of sources that fit and are consistent is refused only for sizes
 abbrev pub RefusalLaw : Type 0
 RefusalLaw = (bottom : ℕ) (sources : List Source) (items : List Item) (stopped : LinkFault) → AllByRecursion SourceFits sources
     → AllByRecursion IsConsistent sources → AreItems (map object_of sources) items → outcome bottom items ≡ Err stopped

@@ -282,7 +282,7 @@ module _ (P : Name → Type 0) where
         (undefined_holds context (Local number))
     symbols_hold map context table here m h Counter = here_holds table h.sections
 
-    -- the value of an expression in a line
+    -- if all definitions and all sections have the property, the section of an expression's value in a line has it too
     pub known_holds : (map : Map) (context : Context) (table : Table) (here : ℕ) → AllDefined map.definitions
         → TableHolds table → (tokens : Expression) → ValueHolds (value (known_at map context table here) tokens)
     known_holds map context table here m h tokens =

@@ -45,7 +45,7 @@ AgreesWith moves table = Agrees moves (record {
   section = table.modes.section;
 })
 
--- so a counter is a word
+-- if counters and sizes follow from the moves, the location counter is below 65536
 counter_low : (moves : List SectionMove) (table : Table) → AgreesWith moves table → location table < 65536
 counter_low moves table agrees = let at = agrees.counters table.modes.section in omega (arith, at)
 
@@ -63,7 +63,7 @@ counter_within new table within =
 further_is : (start size : ℕ) → start + size < 65536 → further start size ≡ start + size
 further_is start size low = omega (arith, low)
 
--- none of them wraps around, so the last one ends by the last address
+-- if no piece covers the last location, none wraps around to 0, and all of them end at or before that location
 all_low : (section : Name) (start : ℕ) (contents : List PieceContent) → start < 65536
     → list_any covers_last (pieces_from section start contents) ≡ false → start + contents_size contents < 65536
 all_low section start [] low none = omega (arith, low)
@@ -76,7 +76,7 @@ all_low section start (content ∷ contents) low none =
     let rest = all_low section (start + content_size content) contents here (subst P on parts.1) in
     omega (arith, rest)
 
--- pieces that end by this location
+-- a piece ends at or before this location
 abbrev pub EndsBy : ℕ → Piece → Type 0
 EndsBy end piece = piece.location + size_of piece ≤ end
 
@@ -88,7 +88,7 @@ all_end section start end (content ∷ contents) fits low =
     let P : ℕ → Type 0 = λ n. AllByRecursion (EndsBy end) (pieces_from section n contents) in
     (omega (arith, fits), subst P (sym on) (all_end section (start + content_size content) end contents (omega (arith, fits)) low))
 
--- the location at which a line emits
+-- a line emits at its location counter plus the gap before its bytes, modulo 65536
 start_is : (table : Table) (does : Action) → location table < 65536 → put_location table does ≡ (location table + gap_before table does) % 65536
 start_is table (Operate operator start) low = refl
 start_is table other low = omega (arith, low)
@@ -98,7 +98,7 @@ start_is table other low = omega (arith, low)
 abbrev pub Entered : Type 0
 Entered = List (Name × ℕ)
 
--- sections with their sizes, numbered from this number on
+-- the names of sections with their sizes; `size` returns the size of the section with a number, and the first one has this number
 abbrev pub entered_from : (ℕ → ℕ) → ℕ → List Section → Entered
 entered_from size number [] = []
 entered_from size number (section ∷ sections) = (section.name, size number) ∷ entered_from size (number + 1) sections
@@ -161,7 +161,7 @@ module _ (fills : FillsLaw) (known : Map) (final : Table) (once : AreOnce (names
       let here = all.0 in
       (omega (arith, here, le), in_section_of name end (further start (content_size content)) contents le all.1)
 
-  -- the name of the current section of an earlier table has the size of its number
+  -- the size after all lines of an earlier table's current section is the same by its name and by its number
   size_here : (table : Table) (more : List Section) → final.sections ≡ table.sections ++ more
       → table.modes.section < length table.sections
       → final_size final (section_name table) ≡ tables.size_of table.modes.section final

@@ -135,7 +135,7 @@ module _ (P : Name → Type 0) (blank : P blank_name) where
 
   -- ---- lines
 
-  -- the sections before a line are among those after more lines
+  -- what holds of the sections after this line and more lines holds of those after this line
   sections_before : (map : Map) (table : Table) (given : UnfoldedLine) (lines : List UnfoldedLine)
       → Sections (after_lines map table (given ∷ lines)).sections → Sections (after_line map table given).sections
   sections_before map table given lines all =

@@ -28,7 +28,7 @@ from_word section start [] low = tt
 from_word section start (content ∷ contents) low =
     (low, from_word section (further start (content_size content)) contents (word (start + content_size content)))
 
--- only an operator emits anything
+-- the pieces that an action emits are at locations that are words
 action_at_words : (map : Map) (stood : Table) (line : Bytes) (done : Action)
     → AllByRecursion LiesAtWord (pieces_from (section_name stood) (put_location stood done) (emission_by map stood line done).contents)
 action_at_words map stood line (Store storage) =

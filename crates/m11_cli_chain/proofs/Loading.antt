@@ -1,4 +1,4 @@
--- A load in memory into a new machine.
+-- A load of a tape in memory into a new machine.
 use Rattle.std.proofs.Common.{◌≡◌, ℕ, Option, Result, subst}
 use Rattle.m11_base.specs.Devices.{Bytes}
 use Rattle.m11_base.specs.Feed.{Text}

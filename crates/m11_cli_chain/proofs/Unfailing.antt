@@ -1,4 +1,4 @@
--- Feeds that never fail end no run.
+-- If feeds never fail, no assembly and no link of them ends with `Read`.
 use Rattle.std.proofs.Common.{◌≢◌, ℕ, List, [], ◌∷◌, Option, Result, Ok, Err, IfErr, subst, inl, inr, arith}
 use Rattle.m11_asm.specs.Passes as asm
 use Rattle.m11_asm.specs.Program.{Program, program_of}

@@ -13,7 +13,7 @@ use Rattle.m11_asm_outcome_laws.specs.Live.{AreRefused}
 use Rattle.m11_asm_passes.specs.Lines.{NumberedLine}
 use Rattle.m11_cli_chain.specs.Sources.{AreLive, source_of}
 
--- the object of the source that the live lines define was appended, and the source fits
+-- the product gained the object of the source that the live lines of the texts define, and the source fits
 pub record WritesObject (texts : List Bytes) (old new : Outputs) : Type 0 where
   pub lines : List NumberedLine
   pub live : AreLive texts lines

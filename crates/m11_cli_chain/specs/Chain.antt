@@ -35,8 +35,8 @@ use Rattle.m11_cli_chain.specs.declared.fault.ChainFault.TheVariants.{Assembly, 
 
 -- ---- the machine
 
--- a machine holds the image, and 0 where the image has no byte; no byte of the image is outside its `words` words of memory; everything
--- else is as in a new machine; and its program starts at the image's start, or at 1 if the image has none
+-- A machine holds the image, and 0 where the image has no byte. No byte of the image is outside the `words` words of its memory. Everything
+-- else is as in a new machine. The program starts at the image's start, or at 1 if the image has none.
 pub record HasImage (image : Image) (words : ℕ) (machine : Machine) (start : ℕ) : Type 0 where
   pub bytes : (address : ℕ) → address < 2 * words → byte_in address machine ≡ unwrap_or (image.byte address) 0
   pub inside : LiesInside (2 * words) image
@@ -65,8 +65,8 @@ pub record Linked (texts : List (List Bytes)) (bottom : ℕ) (Holds : List Sourc
   pub links : LinkTakes bottom (sources_of lines)
   pub holds : Holds (sources_of lines)
 
--- a fault that stops a load: a byte of the image is outside memory, or the tape has more than 4,194,304 bytes; no other fault stops a
--- load
+-- a load stops with this fault: `OutsideMemory`, and a byte of the image is outside memory; or `TooMuch`, and the tape has more than
+-- 4,194,304 bytes; no other fault stops a load
 abbrev pub StopsLoad : ℕ → ℕ → LoadFault → List Source → Type 0
 StopsLoad bottom words OutsideMemory sources = LiesPast (2 * words) (image_of bottom sources)
 StopsLoad bottom words (Tape TooMuch) sources = most_bytes < length (tape_of bottom sources)
@@ -82,8 +82,8 @@ pub record LinkRefuses (texts : List (List Bytes)) (bottom : ℕ) (stopped : Lin
   pub refused : outcome bottom items ≡ Err stopped
   pub of_sizes : IsOfSizes bottom (sources_of lines) stopped
 
--- the outcome of a chain of texts, each list of them one assembly: a machine that holds the image of the sources; a load that is stopped;
--- the first refusal of a link or of an assembly; or memory was refused; no device fails
+-- A chain, in which each list of texts is one assembly, has this outcome: a machine that holds the image of the sources; a fault that stops
+-- the load; the first refusal of the link; the first refusal of an assembly; or `NoMemory`. No device fails.
 abbrev pub Chains : List (List Bytes) → ℕ → ℕ → Result Chained ChainFault → Type 0
 Chains texts bottom words (Ok done) =
     Linked texts bottom (λ sources. HasImage (image_of bottom sources) words done.machine done.start)

@@ -5,14 +5,14 @@ use Rattle.m11_asm_faults.specs.declared.fault.AsmFault.TheVariants as assembly
 use Rattle.m11_link_layout.specs.declared.fault.LinkFault.{LinkFault}
 use Rattle.m11_link_layout.specs.declared.fault.LinkFault.TheVariants as linking
 
--- a fault of the texts: any but those of a device, `Read` and `Write`, and `NoMemory`
+-- the fault is one of the texts: it is neither a device's, `Read` or `Write`, nor `NoMemory`
 abbrev pub IsOfTexts : AsmFault → Type 0
 IsOfTexts assembly.Read = ⊥
 IsOfTexts (assembly.Write output) = ⊥
 IsOfTexts assembly.NoMemory = ⊥
 IsOfTexts stopped = ⊤
 
--- a fault of the objects: any but those of a device, `Read` and `Write`, and `NoMemory`
+-- the fault is one of the objects: it is neither a device's, `Read` or `Write`, nor `NoMemory`
 abbrev pub IsOfObjects : LinkFault → Type 0
 IsOfObjects linking.Read = ⊥
 IsOfObjects (linking.Write output) = ⊥

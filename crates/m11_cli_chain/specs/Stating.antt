@@ -12,8 +12,8 @@ use Rattle.m11_cpu_machine.specs.declared.machine.Machine.{Machine}
 use Rattle.m11_asm_passes.specs.Lines.{NumberedLine, givens}
 use Rattle.m11_cpu_laws.specs.Image.{byte_of}
 
--- a machine with `words` words holds the bytes that the live lines of these texts state in a program whose relocatable sections begin at
--- `bottom`, and 0 elsewhere, provided that no section that one source calls ABS is REL in the program
+-- A machine with `words` words holds the bytes that the live lines of these texts state in a program whose relocatable sections begin at
+-- `bottom`, and 0 elsewhere. This is required only if no section that one source calls ABS is REL in the program.
 pub record HoldsStated (texts : List (List Bytes)) (bottom words : ℕ) (machine : Machine) : Type 0 where
   pub lines : List (List NumberedLine)
   pub live : AllLive texts lines

@@ -39,12 +39,12 @@ pub struct Chained {
     pub start: u16,
 }
 
-/// Assembles the texts of each list of `sources` together, links the objects, with relocatable sections from `bottom` on, and loads the
-/// tape into a new machine with `words` words of memory, 4,096 to 28,672. All of this happens in memory.
+/// Assembles the texts of each list of `sources` together, links the objects, with relocatable sections that begin at `bottom`, and loads
+/// the tape into a new machine with `words` words of memory, 4,096 to 28,672. All of this happens in memory.
 ///
-/// The machine then holds the image of the sources: at each address the byte that the sources put there, and 0 elsewhere. Its registers and
-/// its status are those of a new machine, and the start is the image's, or 1 if the image has none. This holds whatever lines are flagged
-/// and whatever the linker reports.
+/// The machine then holds the image of the sources: at each address the last byte that the sources put there, and 0 where they put none.
+/// The machine's registers and status are those of a new machine, and the start is the image's, or 1 if the image has none. This holds
+/// whichever lines are flagged and whatever the linker reports.
 ///
 /// Faults: `Assembly` with the first refusal of the first list that is refused; `Link` with the first refusal of the link; `Load` with
 /// `OutsideMemory` if the image has a byte outside memory, or with `TooMuch` if the tape has more than 4,194,304 bytes; `NoMemory` whenever
@@ -72,7 +72,7 @@ pub fn run_chain(
     load(alloc, tape.as_slice(), words)
 }
 
-// A feed for each text, in order. Error: memory was refused.
+// A feed for each text, in order. Error: `NoMemory`.
 fn feeds<'a>(alloc: Global, texts: &'a [Vec<u8>]) -> Result<Vec<MemoryFeed<'a>>, ChainFault>
     ensures known { IfOk result (λ feeds. map ⟦<MemoryFeed<'a> as Feed>⟧.text feeds.items
         ≡ map whole_text (map (λ text. text.items) texts.entry.now)) }

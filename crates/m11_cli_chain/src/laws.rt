@@ -1,5 +1,5 @@
 //! What assemblies of known texts write, and properties of the sources that live lines define for a link. Each law is the contract of a
-//! function that does nothing but call the laws from which its own follows, if there are any.
+//! function that does nothing but call the laws needed to prove it, if there are any.
 
 ghost use Rattle.std.specs.Prelude.{◌≡◌, ◌∷◌, List, Result};
 ghost use Rattle.std.specs.List.{AllByRecursion};
@@ -41,7 +41,7 @@ pub fn live_lines_give_consistent_sources()
 }
 
 /// If both passes read the same known texts, a successful assembly has appended to its object exactly the object of the source that the
-/// live lines of the texts define. That source fits: each field of its records fits its room, and each record fits a block. Any other
+/// live lines of the texts define. That source fits: each field of its records fits its width, and each record fits a block. Any other
 /// assembly was stopped by a device or by lack of memory, or its fault is the first refusal of the texts.
 pub fn known_sources_decide_the_assembly<F: Feed>()
     ensures { (first again second later : List F) (texts : List Bytes) (old new : Outputs) (returned : Result AsmDone AsmFault)

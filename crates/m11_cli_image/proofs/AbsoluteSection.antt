@@ -1,4 +1,4 @@
--- `. ABS.` is at 0, since it is the first section of each assembled source, with ABS.
+-- `. ABS.` is at 0, since it is the first section of each assembled source, and is ABS there.
 use Rattle.std.proofs.Common.{◌≡◌, ℕ, ◌+◌, Bool, not, ◌&&◌, if◌then◌else◌, List, [], ◌∷◌, ◌++◌, map, sum, sum_by, take, Option, Some, None, refl, sym, ap, subst}
 use Rattle.std.specs.List.{AllByRecursion, enumerate_from}
 use Rattle.std.specs.Map.{lookup}

@@ -85,7 +85,7 @@ module _ (bottom : ℕ) (sources : List Source) where
   front_of P [] ys all = (tt, all)
   front_of P (x ∷ xs) ys all = let more = front_of P xs ys all.1 in ((all.0, more.0), more.1)
 
-  -- the sections of each source, by its index
+  -- the sections of each source that it calls ABS are at 0; the first source has this index
   abbrev pub AllAtZero : ℕ → List Source → Type 0
   AllAtZero index [] = Unit {0}
   AllAtZero index (source ∷ others) =

@@ -50,7 +50,7 @@ address_kept found text (relocation ∷ relocations) = address_kept found (with_
 
 -- ---- the texts of sources
 
--- the texts hold all pieces
+-- the texts made from the pieces of a source hold exactly these pieces
 abbrev pub HoldsPieces : Source → Type 0
 HoldsPieces source = joined (cutting source.pieces) ≡ source.pieces
 

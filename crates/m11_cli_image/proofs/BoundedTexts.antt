@@ -40,7 +40,7 @@ use Rattle.m11_cli_image.proofs.ReadTexts.{selects_same, whole_split}
 abbrev Entered : Type 0
 Entered = List (Name × ℕ)
 
--- these bytes end within the section, if it was entered
+-- these bytes end within the section; one that wasn't entered has size 0
 abbrev pub EndsWithin : Entered → Name → ℕ → List ℕ → Type 0
 EndsWithin entered section location bytes = location + length bytes ≤ unwrap_or (size_known entered section) 0
 
@@ -202,7 +202,7 @@ as_read_within : (source : Source) (texts : List TextParts)
 as_read_within source [] h = tt
 as_read_within source (text ∷ texts) h = (h.0, as_read_within source texts h.1)
 
--- the texts of a source, and those of the parts after it
+-- if the texts of a source and of the parts after it end within their sections, so do the texts of the source, and so do those of the parts
 pub source_bounded : (source : Source) (rest : List Part) → Bounded [] absolute_name (source_parts source ++ rest)
     → AllByRecursion (TextWithin source) (texts_of source.pieces) × Bounded [] absolute_name rest
 source_bounded source rest h =

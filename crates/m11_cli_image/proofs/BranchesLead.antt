@@ -50,7 +50,7 @@ reached : (d : ℕ) → d < 65536 → (low : Bool) → nat_le d 254 ≡ low → 
 reached d word true e even some = forward d (even_number d even) (near d e)
 reached d word false e even some = backward d word (even_number d even) (far d some)
 
--- the distance of an offset is the one from which it was made
+-- if a distance is within reach of a branch, the offset made from it has this distance
 distance_again : (d : ℕ) → d < 65536 → in_reach d ≡ true → branch_distance (d / 2 % 256) ≡ d
 distance_again d word reach =
     let split = both (d % 2 == 0) (nat_le d 254 || nat_le 65280 d) reach in

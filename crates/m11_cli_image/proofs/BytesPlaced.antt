@@ -36,7 +36,7 @@ nothing_within start address = by (nat_le start address)
     by true = refl
     by false = refl
 
--- an address is before the bytes, or so far after their start
+-- an address is before the start of bytes, or at this distance after it
 data Lies (start address : ℕ) : Type 0 where
   Before : nat_le start address ≡ false → nat_le (start + 1) address ≡ false → Lies start address
   After : (far : ℕ) → nat_le start address ≡ true → address - start ≡ far → nat_le (start + 1) address ≡ nat_le 1 far
@@ -146,7 +146,7 @@ module _ (program : Addresses) (index : ℕ) where
   as_long spot (Word stored) = refl
   as_long spot Limits = refl
 
-  -- if no address exceeds 177777, a text's bytes are those of its pieces
+  -- if no address of a text exceeds octal 177777, the text has at each address the byte of its pieces
   module _ (section : Name) (address : ℕ) where
     abbrev base : ℕ
     base = program.base index section
@@ -184,7 +184,7 @@ module _ (program : Addresses) (index : ℕ) where
 
 -- ---- how pieces are cut into texts
 
--- pieces one after another, or none
+-- each of these pieces begins where the one before it ends
 abbrev pub IsRun : List Piece → Type 0
 IsRun [] = Unit {0}
 IsRun (first ∷ rest) = are_contiguous first rest ≡ true

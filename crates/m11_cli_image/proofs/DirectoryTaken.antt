@@ -1,4 +1,4 @@
--- Entries of a directory that a link accepts: no part of it is out of order, whatever names come before.
+-- A directory whose entries are in order passes the rules of a link, whatever names come before it.
 use Rattle.std.proofs.Common.{◌≡◌, ℕ, Bool, true, false, ◌&&◌, List, [], ◌∷◌, ◌++◌, append_assoc, length, map, flat_map, Option, Some, None, refl, sym, subst}
 use Rattle.std.specs.Prelude.{⊤, nat_eq, nat_le}
 use Rattle.std.specs.Map.{lookup}
@@ -24,7 +24,8 @@ use Rattle.m11_obj.specs.Fronts.{joined}
 abbrev pub Entered : Type 0
 Entered = List (Name × ℕ)
 
--- ---- faults that are limits: too many modules, or a text outside its section
+-- ---- faults that are limits: too many globals or sections; too many modules, if `many` holds; a text outside its section, if `outside`
+-- holds
 
 abbrev pub Limits : Type 0 → Type 0 → ModuleFault → Type 0
 Limits many outside TooManyGlobals = ⊤
@@ -52,7 +53,7 @@ state stage modules sections globals entered section text = record {
 
 -- ---- entries in order
 
--- an entry that is in order after these sections were entered
+-- an entry of this kind may come after these sections were entered
 abbrev pub MayCome : GsdKind → GsdEntry → Entered → Type 0
 MayCome ControlSection entry entered = lookup (is_same_name entry.name) entered ≡ None
 MayCome ProgramSection entry entered = lookup (is_same_name entry.name) entered ≡ None
@@ -188,13 +189,13 @@ module _ (many outside : Type 0) where
         entry_goes entry.kind entry entered (map (λ entry. Entry entry) entries ++ parts) may.0
         (entries_go (entered_with entry.kind entry entered) entries parts may.1 h)
 
-    -- ---- the records, before which a module is open or not
+    -- ---- records, with or without an open module before them
 
     abbrev pub GoesFrom : Stage → Entered → List Part → Type 0
     GoesFrom stage entered parts = (sections globals : List Name)
         → Sound (first_known_fault (state stage modules sections globals entered section text) parts)
 
-    -- parts that may come before any record of a directory, and after some
+    -- these parts have no fault but a limit, whether or not a directory is open before them
     abbrev pub GoesBefore : Entered → List Part → Type 0
     GoesBefore entered parts = GoesFrom Between entered parts × GoesFrom InDirectory entered parts
 
@@ -220,7 +221,7 @@ module _ (many outside : Type 0) where
         subst P (sym (append_assoc own (flat_map directory_parts cuts) parts))
         (opens Between entered (own ++ more) room refl inner, opens InDirectory entered (own ++ more) room refl inner)
 
-    -- the end of a directory
+    -- if the parts after the end of a directory have no fault but a limit, then that end with these parts has no other fault either
     pub directory_ends : (room : nat_le most_modules modules ≡ true → many) (entered : Entered) (parts : List Part)
         → GoesFrom InBody entered parts → GoesBefore entered (EndOfDirectory ∷ parts)
     unfolding fault_known known_after

@@ -71,7 +71,7 @@ relocations_named : (relocations : List Relocation) → named (map (λ one. Relo
 relocations_named [] = refl
 relocations_named (one ∷ relocations) = ap (cons_option (relocation_global one)) (relocations_named relocations)
 
--- the global of the relocation of some bytes, if they have one
+-- the global that a relocation names, as a list; empty if there is no relocation or it names none
 abbrev said : Option Relocation → List Name
 said found = filter_map relocation_global (option_to_list found)
 

@@ -62,7 +62,7 @@ module _ (bottom : ℕ) (sources : List Source) where
 
   -- ---- the parts of all sources
 
-  -- the names of sections and of globals are those of the sources
+  -- if the parts have too many names of sections, or of globals, a link may stop for that, since the names are those of the sources
   sections_passed : most_sections < length (section_names (link_parts sources)) → MayStop fault.TooManySections
   sections_passed lt =
       let P : List Name → Type 0 = λ names. most_sections < length names in subst P (names_same sources) lt
@@ -96,7 +96,7 @@ module _ (bottom : ℕ) (sources : List Source) where
   stops_by : (found stopped : LinkFault) → MayStop found → refused found ≡ refused stopped → MayStop stopped
   stops_by found stopped may e = subst MayStop (err_is found stopped e) may
 
-  -- parts before items are accepted, or refused
+  -- if a link stops at parts, or accepts them and stops at the items after them, its fault is one by which it may stop
   parts_stop : (before parts more : List Part) (items : List Item) (stopped : LinkFault) → Legit (first_fault before (parts ++ more))
       → (Legit (first_fault (before ++ parts) more) → taken (before ++ parts) items ≡ Err stopped → MayStop stopped)
       → (taken_parts before parts >>= λ these. taken these items) ≡ Err stopped → MayStop stopped
@@ -113,7 +113,7 @@ module _ (bottom : ℕ) (sources : List Source) where
   abbrev ends : List Content → List Part
   ends contents = flat_map parts_of contents ++ EndOfFile ∷ []
 
-  -- the statement about the items after an object
+  -- if a link accepts all parts before these items and stops at the items, its fault is one by which it may stop
   abbrev Later : List Part → List Part → List Item → LinkFault → Type 0
   Later all more items stopped = (these : List Part) → these ≡ all → Legit (first_fault these more) → taken these items ≡ Err stopped
       → MayStop stopped

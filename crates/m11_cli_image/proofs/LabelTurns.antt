@@ -35,7 +35,7 @@ pub data Turns (table : Table) (old new : Option Definition) : Type 0 where
   Marking : Marks table old new → Turns table old new
   Valued : (definition : Definition) → is_of_label old ≡ false → new ≡ Some definition → definition.label ≡ None → Turns table old new
 
--- a label is still the last definition
+-- this definition is the last one found, and is a label's
 abbrev pub IsLabel : Definition → Option Definition → Type 0
 IsLabel definition found = (found ≡ Some definition) × (is_some definition.label ≡ true)
 
@@ -48,7 +48,7 @@ label_stays table definition old new (Marking (Stays e)) h = (e ∙ h.0, h.1)
 label_stays table definition old new (Marking (Marked e f)) h = absurd (not_none definition (sym h.0 ∙ e))
 label_stays table definition old new (Valued other e f g) h = absurd (true≢false (sym h.1 ∙ (sym (ap is_of_label h.0) ∙ e)))
 
--- the same, or there is no definition yet
+-- no definition is found yet, or this one is
 abbrev pub IsOrNone : Definition → Option Definition → Type 0
 IsOrNone definition found = (found ≡ None) ⊎ (found ≡ Some definition)
 

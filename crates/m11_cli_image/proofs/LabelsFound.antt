@@ -65,7 +65,8 @@ module _ (name : Name) where
   mark_at table old new same (Stays e) is = subst (IsOrNone (labelled table)) (sym e) is
   mark_at table old new same (Marked e f) is = inr (f ∙ ap (λ (one : Definition). Some one) (same_label old table same))
 
-  -- a name isn't defined yet, or is a label at the section and location of the table before the labels
+  -- if a name isn't defined before the labels of a line, or is a label at the line's section and location, the same is true after the
+  -- labels
   labels_mark : (table old : Table) (line : Bytes) (labels : List Label) → where_of old ≡ where_of table
       → IsOrNone (labelled table) (last name old) → IsOrNone (labelled table) (last name (with_labels line old labels))
   labels_mark table old line [] same is = is
@@ -88,7 +89,7 @@ module _ (name : Name) where
   line_turns known table given =
       change_turns name known (line_change (firm_table (stands table given)) given) (stands table given)
 
-  -- labels of a line leave an earlier label
+  -- labels of a line leave an earlier label as it is
   labels_after : (definition : Definition) (line : Bytes) (table : Table) (labels : List Label)
       → IsLabel definition (last name table) → IsLabel definition (last name (with_labels line table labels))
   labels_after definition line table [] is = is
@@ -150,7 +151,7 @@ module _ (name : Name) where
       (lines_after definition known (after_line known (before_line lines line) line.given) line.after
       (operator_after definition known (before_line lines line) line.given (at_its_line lines line has)))
 
-  -- in another line it has the same definition, or none yet
+  -- in any line of the source, the name of the label has the label's definition, or none yet
   pub in_a_line : (lines : List UnfoldedLine) (line other : LineOf lines) → HasLabel lines line name
       → IsOrNone (labelled (at_line lines line)) (last name (at_line lines other))
   in_a_line lines line other has =
@@ -211,7 +212,8 @@ module _ (program : Addresses) (source : ℕ) where
       ap (λ (b : Bool). target_by program source (location table) (if b then kind.Section (section_name table) else kind.Absolute)) e
       ∙ (low_location (location table) low ∙ ap (λ (base : ℕ). modulo (base + location table)) (sym (absolute e)))
 
-  -- the meaning of a name, given its definitions in the line and in the map
+  -- if a name has the value of a label in the map, and the label's definition or none in a line, its target in that line is that of the
+  -- label
   pub meaning_lies : (name : Name) (doubly_defined more : Keys) (other : Quantity) (number : ℕ) (sort : Kind)
       (here : Option Definition) (map : Option Definition) (one label : Definition) → one.standing ≡ Known number sort → label.standing ≡ Known number sort
       → map ≡ Some one → IsOrNone label here

@@ -97,7 +97,7 @@ module _ (alike : Alike) (bottom : ℕ) (sources : List Source) where
         one.0 (labelled at) one.2 refl one.1 (in_a_line name lines line other has)
         ∙ location_lies line
 
-    -- the definition of the label in the source's own table
+    -- in the source's own table, the name of a label has a known value, whose target is the address of the label's line
     pub label_known : (line : LineOf lines) → HasLabel lines line name
         → (one : Definition) × (number : ℕ) × (sort : Kind)
         × (last_definition (Named name) (table_after empty_map lines).definitions ≡ Some one) × (one.standing ≡ Known number sort)

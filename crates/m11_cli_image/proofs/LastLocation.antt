@@ -34,7 +34,7 @@ use Rattle.m11_cli_image.proofs.TextsInside.{SmallSize, first_bounded, found_sma
 low_not : (n : ℕ) → n < 65536 → nat_le 65536 n ≡ false
 low_not n lt = grind (arith, nat_tests)
 
--- pieces one after another that end before the last location
+-- if pieces, each beginning where the one before it ends, end at or before the last location, none has a byte there
 run_not : (section : Name) (location : ℕ) (pieces : List Piece) → Runs section location pieces
     → location + length (text_bytes pieces) < 65536 → list_any covers_last pieces ≡ false
 run_not section location [] run low = refl

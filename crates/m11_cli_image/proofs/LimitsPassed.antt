@@ -57,7 +57,7 @@ added_past false true most seen name e h =
     le_of n e = grind (arith, nat_tests)
 added_past false false most seen name e h = absurd cc
 
--- a name for which there is no room, and then others
+-- if there is no room for a name, it and the names before and after it are more than the limit allows
 past_by : (most : ℕ) (names more : List Name) (name : Name) → IsNew most (distinct names) name → most < length (distinct (names ++ name ∷ more))
 unfolding distinct
 past_by most names more name new =
@@ -69,7 +69,7 @@ past_by most names more name new =
 
 -- ---- the fault of one part
 
--- a name of the part exceeds a limit of names
+-- if the fault is a limit of names, a name of the part exceeds this limit
 abbrev Says : List Name → List Name → Option Name → Option Name → Option ModuleFault → Type 0
 Says sections globals section global (Some TooManySections) = (name : Name) × (section ≡ Some name) × IsNew most_sections sections name
 Says sections globals section global (Some TooManyGlobals) = (name : Name) × (global ≡ Some name) × IsNew most_globals globals name
@@ -83,7 +83,7 @@ module _ (sections globals : List Name) where
   abbrev Told : Option Name → Option Name → Option ModuleFault → Type 0
   Told section global fault = Says sections globals section global fault
 
-  -- faults that are not limits of names
+  -- what is true of a fault is true of a rule that reports this fault or none
   plain : (section global : Option Name) (b : Bool) (fault : ModuleFault) → Told section global (Some fault)
       → Told section global (first_there ((b, fault) ∷ []))
   plain section global true fault h = h
@@ -179,7 +179,7 @@ part_told before part =
 
 -- ---- the first fault
 
--- the names of all parts exceed a limit of names
+-- if the fault is a limit of names, the parts have more names than this limit allows
 abbrev pub Passes : List Part → ModuleFault → Type 0
 Passes parts TooManySections = most_sections < length (section_names parts)
 Passes parts TooManyGlobals = most_globals < length (global_names parts)

@@ -79,7 +79,7 @@ one_module seen source =
     (EndOfDirectory ∷ (flat_map parts_of contents ++ EndOfModule ∷ EndOfFile ∷ []))
     ∙ past_body seen.modules contents (are_body source) (EndOfModule ∷ EndOfFile ∷ [])
 
--- ---- all of them together
+-- ---- all sources together
 
 module _ {X : Type 0} (said : Seen → GsdEntry → Option X) (own : ℕ × Source → List X)
     (is : (source : Source) (seen : Seen)

@@ -19,7 +19,7 @@ selects_or_stores (LocationCounterDefinition name location) = refl
 selects_or_stores (LocationCounterModification location) = refl
 selects_or_stores target = refl
 
--- the first relocation stores a value, or changes nothing
+-- a first relocation that only selects a section and a location can be left out, since it changes nothing
 first_stored : (b : Bool) (found : Findings) (text : PlacedText) (relocation : Relocation) (relocations : List Relocation)
     → not (only_selects relocation.target) ≡ b
     → with_relocations found (with_relocation found text relocation) relocations

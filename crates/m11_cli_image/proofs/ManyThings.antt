@@ -1,4 +1,4 @@
--- The pieces that a line puts from a location on are, one by one, the values that it states from there on.
+-- The pieces that a line emits are, one by one, the values that the line states, at the same locations.
 use Rattle.std.proofs.Common.{◌≡◌, ◌∙◌, ℕ, ◌<◌, Bool, true, false, if◌then◌else◌, List, [], ◌∷◌, ◌++◌, map, flat_map, refl, sym, ap, ap₂, subst, arith}
 use Rattle.m11_base.specs.Devices.{Bytes}
 use Rattle.m11_obj.specs.declared.pieces.PieceContent.{PieceContent}
@@ -29,7 +29,7 @@ module _ (program : Addresses) (source : ℕ) (table : Table)
   abbrev M : ℕ → PieceContent → Stated → Type 0
   M location content stated = Means program source table absolute location content stated
 
-  -- ---- from a location on
+  -- ---- one after another, the first at a location
 
   abbrev pub Mean : ℕ → List PieceContent → List Stated → Type 0
   Mean location [] [] = Unit {0}

@@ -38,7 +38,7 @@ empty_both (byte ∷ some) more e = absurd cc
 silent_both : (some more : List Write) → Silent (some ++ more) → Silent some × Silent more
 silent_both some more e = empty_both (gained link Messages some) (gained link Messages more) (sym (gained-append link Messages some more) ∙ e)
 
--- a line ends by a line feed
+-- a line isn't empty, since it ends with a line feed
 not_empty : (text : Bytes) → text ++ 0o12 ∷ [] ≡ [] → ⊥
 not_empty [] e = absurd cc
 not_empty (byte ∷ text) e = absurd cc

@@ -30,7 +30,7 @@ at_zero : (base location number : ℕ) → location < 65536 → base ≡ 0
     → (number + 131072 - (location + 2)) % 65536 ≡ (number + (65536 - ((base + location) % 65536 + 2) % 65536)) % 65536
 at_zero base location number low zero = omega arith
 
--- a value, or its distance from the location after a word
+-- a value, or, if it is relative, its distance from the location after the word at an address
 abbrev pub told : Bool → ℕ → ℕ → ℕ
 told is_relative address value = if is_relative then less value (following address) else value
 

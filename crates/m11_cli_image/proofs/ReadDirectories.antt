@@ -33,7 +33,7 @@ source_said said seen source =
     ∙ module_said said (module_of source) seen
     ∙ ap (entries_by said seen) (holds_rows (directory_rows source.facts)).exact
 
--- before the first part
+-- the summary before the first part
 abbrev pub first : Seen
 first = record { modules = 0; entered = None; selected = absolute_name }
 

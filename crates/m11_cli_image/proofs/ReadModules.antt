@@ -69,7 +69,7 @@ module_of source = record {
   body = flat_map body_of (text_records source.pieces);
 }
 
--- the parts of its directory, and those of its texts
+-- the parts of a source are those of its directory, the end of the directory, those of its texts, and the end of the module
 pub split : (source : Source) → source_parts source
     ≡ flat_map directory_parts (record_cutting (directory_rows source.facts))
     ++ EndOfDirectory ∷ flat_map parts_of (text_records source.pieces) ++ EndOfModule ∷ []

@@ -14,7 +14,7 @@ use Rattle.m11_link_modules.proofs.KnownAfter.{this_module_ended, this_module_go
 
 -- ---- the summary that parts leave for the next one
 
--- the number of modules that ended; and of the module after them, the section that it entered last and the one that it selected last
+-- the number of modules that ended; and, in the module after them, the section entered last, if there is one, and the section selected last
 pub record Seen : Type 0 where
   pub modules : ℕ
   pub entered : Option Name
@@ -40,7 +40,7 @@ seen_after seen EndOfModule =
     record { modules = seen.modules + 1; entered = None; selected = absolute_name }
 seen_after seen part = seen
 
--- ---- one part more
+-- ---- one more part
 
 modules_stay : (before : List Part) (part : Part) → ends_module part ≡ false
     → modules_in (before ++ part ∷ []) ≡ modules_in before

@@ -39,7 +39,7 @@ onto (Some x) xs = refl
 
 -- ---- functions for which only rows of sections and of the transfer address count
 
--- other rows count for nothing
+-- the function returns None for all other rows
 record Silent {X : Type 0} (said : DirectoryRow → Option X) : Type 0 where
   pub title : (name : Name) → said (row.Module name) ≡ None
   pub identification : (name : Name) → said (row.Identification name) ≡ None
@@ -120,7 +120,7 @@ module _ {X : Type 0} (said : DirectoryRow → Option X) (silent : Silent said) 
       ∙ ap₂ (λ some more. some ++ more) (front_silent facts.title facts.identification)
       (sections_said (enumerate_from 0 facts.table.sections)))
 
--- functions of entries that don't depend on the section entered before
+-- if a function of entries doesn't depend on the section entered before, it has the same values for each row alone
 pub entries_alone : {X : Type 0} (said : ℕ → GsdEntry → Option X) (seen : Seen) (rows : List DirectoryRow)
     → entries_by (λ seen entry. said seen.modules entry) seen (map entry_of rows)
     ≡ filter_map (λ row. said seen.modules (entry_of row)) rows
@@ -155,7 +155,7 @@ transfers_silent modules = record {
   reference = λ name is_weak. refl;
 }
 
--- each row of a section counts, and no row of a transfer address does
+-- if a function has a value for each row of a section and none for the row of the transfer address, its values are those of the sections
 all_said : {X : Type 0} (facts : DirectoryFacts) (view : OwnSection → X) (last : Option X) → last ≡ None
     → (numbered : List (ℕ × Section))
     → filter_map (λ one. Some (view (own_section facts one))) numbered ++ cons_option last []

@@ -61,7 +61,7 @@ texts_are before (part ∷ following) =
     texts_are (before ++ part ∷ []) following
     ∙ ap (λ (seen : Seen). texts_from seen.modules seen.selected following) (seen_more before part)
 
--- ---- a directory has none
+-- ---- a directory has no texts
 
 entries_pass : (modules : ℕ) (section : Name) (entries : List GsdEntry) (rest : List Part)
     → texts_from modules section (map (λ entry. Entry entry) entries ++ rest) ≡ texts_from modules section rest
@@ -163,7 +163,7 @@ whole_split source rest =
     ∙ append_assoc (directory ++ EndOfDirectory ∷ texts) (EndOfModule ∷ []) rest
     ∙ append_assoc directory (EndOfDirectory ∷ texts) (EndOfModule ∷ rest)
 
--- after some modules, and before other parts
+-- after some modules and before other parts, the texts read from the parts of a source are those made from its pieces
 pub source_texts : (source : Source) (modules : ℕ) (rest : List Part)
     → map stored_alone (texts_from modules absolute_name (source_parts source ++ rest))
     ≡ map (text_in modules) (texts_of source.pieces) ++ map stored_alone (texts_from (modules + 1) absolute_name rest)

@@ -47,7 +47,7 @@ turned one other e = by (is_same_name other one) refl
         absurd (let no = sym bad ∙ e in cc)
     by false f = refl
 
--- a name is not found among entries that don't have it
+-- a name that is not among some entries is not among them and an entry with another name
 none_more : (name other : Name) (size : ℕ) (entered : Entered) → lookup (is_same_name name) entered ≡ None → is_same_name name other ≡ false
     → lookup (is_same_name name) (entered ++ (other, size) ∷ []) ≡ None
 none_more name other size [] e f = by (is_same_name name other) f

@@ -1,4 +1,4 @@
--- The parts of sources, one after another, have no fault but a limit.
+-- The parts of sources, one source after another, have no fault but a limit.
 use Rattle.std.proofs.Common.{◌≡◌, ◌∙◌, ℕ, ◌+◌, ◌<◌, ◌≤◌, Bool, true, false, List, [], ◌∷◌, ◌++◌, append_assoc, length, map, flat_map, Option, Some, None, refl, sym, ap, subst, arith}
 use Rattle.std.proofs.lemmas.Bool.{or_left, or_parts, or_right}
 use Rattle.std.specs.Prelude.{nat_le}
@@ -65,7 +65,7 @@ module _ (source : Source) where
   content_named (Word stored) own = kind_named stored.kind own
   content_named Limits own = tt
 
-  -- no piece has a byte at the last location
+  -- if no piece has a byte at the last location, each piece ends at or before it
   none_reaches : (pieces : List Piece) → list_any covers_last pieces ≡ false
       → AllByRecursion (λ (piece : Piece). piece.location + size_of piece < 65536) pieces
   none_reaches [] e = tt

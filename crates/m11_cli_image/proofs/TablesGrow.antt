@@ -149,7 +149,7 @@ set_grows (one ∷ numbers) zero new (suc number) le = omega arith
 set_grows (one ∷ numbers) (suc here) new zero le = omega arith
 set_grows (one ∷ numbers) (suc here) new (suc number) le = set_grows numbers here new number le
 
--- nor if a 0 is added at the end
+-- if a 0 is added at the end, no number gets smaller
 zero_more : (numbers : List ℕ) (number : ℕ) → get_or numbers number 0 ≤ get_or (numbers ++ 0 ∷ []) number 0
 zero_more [] zero = omega arith
 zero_more [] (suc number) = omega arith

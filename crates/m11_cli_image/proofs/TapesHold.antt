@@ -67,7 +67,7 @@ found_by bottom sources fit =
       words = are_words bottom (link_parts sources) (link_words sources fit);
     }
 
--- ---- its tape
+-- ---- the tape of a link
 
 module _ (bottom : ℕ) (sources : List Source) (fit : AllByRecursion SourceFits sources) where
   ends : first_fault [] (link_parts sources) ≡ None → is_too_large bottom (link_parts sources) ≡ false
@@ -103,7 +103,7 @@ tape_given bottom sources items parts fit are e =
       start_is = start_is bottom sources fit;
     }
 
--- ---- a load of it
+-- ---- a load of the tape
 
 pub load_given : (bottom : ℕ) (sources : List Source) (items : List Item) (parts : List Part) (text : Text) (left : Option Text)
     (faults faults' : ℕ) (before after : Machine) (result : Result ℕ LoadFault) → AllByRecursion SourceFits sources

@@ -41,7 +41,7 @@ inside done old rest width e =
     ap₂ (λ (a b : Bool). a && b) (le-leb 4 (4 + length done) (omega arith))
     (le-leb (4 + length done + width) (4 + length (done ++ (old ++ rest))) (omega arith))
 
--- the number of bytes of a value doesn't depend on it
+-- any two words have equally many bytes, and so have any two bytes
 as_many : (is_byte : Bool) (some other : ℕ) → length (value_bytes is_byte some) ≡ length (value_bytes is_byte other)
 as_many true some other = refl
 as_many false some other = refl
@@ -161,7 +161,7 @@ module _ (found : Findings) (text : PlacedText) where
     same_size spot (Word stored) = refl
     same_size spot Limits = refl
 
-    -- ---- the pieces after it
+    -- ---- the pieces after the first
 
     one_by_one : (bytes : Bytes) (some more : List Relocation) → put_into bytes (some ++ more) ≡ put_into (put_into bytes some) more
     one_by_one bytes [] more = refl

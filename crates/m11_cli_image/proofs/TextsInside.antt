@@ -148,7 +148,7 @@ module _ (bottom : ℕ) (sources : List Source) (index : ℕ) (name : Name) wher
       (ends_by size (is_relocatable (first_attributes parts name)) (is_overlaid (first_attributes parts name)) refl refl n
       (ap (lookup (is_same_name name)) (own_same sources index) ∙ e) s)
 
-  -- if it doesn't, the contribution is at 0
+  -- if the source doesn't have the section, the contribution is at 0
   not_entered : entered ≡ None → contribution bottom sources index name ≡ 0
   unfolding contribution
   not_entered e = none_is_zero entered
@@ -192,7 +192,7 @@ module _ (bottom : ℕ) (sources : List Source) (n : is_too_large bottom (link_p
   both_end [] ys h k = k
   both_end (x ∷ xs) ys h k = (h.0, both_end xs ys h.1 k)
 
-  -- the sources from this index on
+  -- the texts of the last sources, the first of which has this index, end at or before the last address
   rest_end : (index : ℕ) (rest : List Source) → ((more : ℕ) → source_at sources (index + more) ≡ source_at rest more)
       → AllByRecursion SourceFits rest → Bounded [] absolute_name (link_parts rest)
       → AllByRecursion (EndsInside bottom sources) (flat_map texts_at (enumerate_from index rest))

@@ -1,4 +1,4 @@
--- Texts of pieces that a link accepts: each is in a known section and within it, and its relocations are inside it.
+-- The texts made from pieces pass the rules of a link: each is in a known section and within it, and its relocations are inside the text.
 use Rattle.std.proofs.Common.{◌≡◌, ◌∙◌, ℕ, ◌+◌, ◌<◌, ◌≤◌, ◌==◌, Bool, true, false, ◌&&◌, not, if◌then◌else◌, List, [], ◌∷◌, ◌++◌, append-nil, append_assoc, length, map, flat_map, Option, Some, None, refl, sym, ap, subst, arith}
 use Rattle.std.specs.Prelude.{⊤, nat_le, nat_lt, option_map}
 use Rattle.std.specs.List.{AllByRecursion}
@@ -52,7 +52,7 @@ ContentNamed entered Limits = ⊤
 abbrev pub size_in : Entered → Name → ℕ
 size_in entered section = unwrap_or (size_known entered section) 0
 
--- a piece names only known sections, and is within its own if none fills the last location
+-- a piece names only known sections, and is within its own section unless `fills` allows a piece at the last location
 pub record Stands (entered : Entered) (fills : Bool) (piece : Piece) : Type 0 where
   pub section : Named entered piece.section
   pub content : ContentNamed entered piece.content
@@ -95,7 +95,7 @@ module _ (entered : Entered) (fills : Bool) (none : fills ≡ false) where
 
 -- ---- relocations are inside their text
 
--- a relocation that stores a value, and names only known sections
+-- a relocation with this target stores a value, and names only known sections
 abbrev pub TargetNamed : Entered → Target → Type 0
 TargetNamed entered (target.Section name) = Named entered name
 TargetNamed entered (target.SectionDisplaced name) = Named entered name
@@ -141,7 +141,7 @@ module _ (entered : Entered) (fills : Bool) (count : ℕ) where
       named = named;
     }
 
-    -- the target of a constant is not a pair of limits
+    -- the relocation of a constant, if it has one, is inside the text; its target isn't a pair of limits
     stored_in : (constant : ℕ) (how : RelocationKind) → KindNamed entered how
         → AllByRecursion In (option_to_list (option_map (λ found. relocation is_byte displacement found) (target_of how constant)))
     stored_in constant kind.Fixed named = tt
@@ -201,12 +201,12 @@ split_all : {X : Type 0} (P : X → Type 0) (xs ys : List X) → AllByRecursion 
 split_all P [] ys h = (tt, h)
 split_all P (x ∷ xs) ys h = let more = split_all P xs ys h.1 in ((h.0, more.0), more.1)
 
--- pieces one after another, or none
+-- each of these pieces begins where the one before it ends
 abbrev pub IsRun : List Piece → Type 0
 IsRun [] = Unit {0}
 IsRun (first ∷ rest) = are_contiguous first rest ≡ true
 
--- the selected section is that of the text before
+-- if a text came before, its section is the selected one
 abbrev pub IsSelected : Option Name → Name → Type 0
 IsSelected None section = ⊤
 IsSelected (Some before) section = before ≡ section
@@ -217,7 +217,8 @@ module _ (many outside : Type 0) (modules : ℕ) (entered : Entered) (fills : Bo
   abbrev Sound : Option ModuleFault → Type 0
   Sound fault = Fine many outside fault
 
-  -- after this section was selected and this text has come, these parts have no fault but a limit, whatever names come before
+  -- after this section was selected and a text of this length was read, or none, these parts have no fault but a limit, whatever names come
+  -- before
   abbrev pub GoesIn : Name → Option ℕ → List Part → Type 0
   GoesIn section text parts = (sections globals : List Name)
       → Sound (first_known_fault (state InBody modules sections globals entered section text) parts)
@@ -273,7 +274,8 @@ module _ (many outside : Type 0) (modules : ℕ) (entered : Entered) (fills : Bo
       stored_goes section count one.target one (map (λ one. Relocated one) relocations ++ parts) lie.0.lies lie.0.named
       (relocations_go section count relocations parts lie.1 h)
 
-  -- the record of relocations after a text
+  -- if relocations are inside a text, and the parts after them have no fault but a limit, then their record with these parts has no other
+  -- fault either
   record_goes : (section : Name) (count : ℕ) (relocations : List Relocation) (parts : List Part)
       → AllByRecursion (IsInText entered count) relocations → GoesIn section (Some count) parts
       → GoesIn section (Some count) (flat_map parts_of (relocation_records relocations) ++ parts)
@@ -337,7 +339,7 @@ module _ (many outside : Type 0) (modules : ℕ) (entered : Entered) (fills : Bo
 
   -- ---- all texts, and the end of the module
 
-  -- whatever text comes before
+  -- these parts have no fault but a limit, whatever section is selected and whatever text was read before them
   abbrev pub GoesAfter : List Part → Type 0
   GoesAfter parts = (section : Name) (text : Option ℕ) → GoesIn section text parts
 

@@ -29,7 +29,7 @@ AreOf (lines ∷ all) (source ∷ sources) = IsOf lines source × AreOf all sour
 
 -- ---- sections
 
--- a section that one source calls ABS isn't relocatable in the program: the first source that has it calls it ABS too
+-- if the source of this section calls it ABS, it isn't relocatable in the program: the first source that has it calls it ABS too
 abbrev pub StaysAbsolute : List Source → OwnSection → Type 0
 StaysAbsolute sources own = is_relocatable own.attributes ≡ false → is_relocatable (attributes_of sources own.name) ≡ false
 

@@ -43,8 +43,8 @@ abbrev pub global_by : Name → Name → Option Definition → Option (Name × G
 global_by section name (Some definition) = global_standing section name definition.standing
 global_by section name None = None
 
--- the name and the location of a global that is listed in a section, or None: it is listed if the value of its last definition is known and
--- is in that section; an absolute value is in `. ABS.`
+-- The name and the location of a global, or None if it isn't listed under this section. It is listed there if the value of its last
+-- definition is known and is in the section. An absolute value is in `. ABS.`.
 abbrev pub global_under : Table → Name → Name → Option (Name × GlobalLocation)
 global_under table section name = global_by section name (last_definition (Named name) table.definitions)
 

@@ -1,4 +1,4 @@
--- The image of a linked program, defined by its sources alone, without objects and relocation commands. (MACRO-11 Language Reference
+-- The image of a linked program, defined by its sources alone, without objects or relocation commands. (MACRO-11 Language Reference
 -- Manual, "Relocation and linking" and ".END directive". This project's own: where two pieces have a byte at one address, that of the later
 -- piece replaces the other, and the first even transfer address is the start.)
 use Rattle.std.specs.Prelude.{ℕ, ◌+◌, List, map, option_map}

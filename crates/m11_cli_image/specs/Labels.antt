@@ -23,7 +23,7 @@ use Rattle.m11_cli_image.specs.Sources.{Source}
 
 -- ---- the lines of a source
 
--- one line of a source, with those before it and after it
+-- one line of a source, with the lines before it and after it
 pub record LineOf (lines : List UnfoldedLine) : Type 0 where
   pub before : List UnfoldedLine
   pub given : UnfoldedLine
@@ -51,7 +51,7 @@ meaning_at lines line context here name =
 
 -- ---- names for other sources
 
--- the source with this index defines a name for the others, at this location, and no earlier source defines it
+-- the source with this index defines a name for the other sources, at the location `location`, and no earlier source defines it
 pub record DefinesFirst (sources : List Source) (index : ℕ) (source : Source) (name : Name) : Type 0 where
   pub own : slice_get sources index ≡ Some source
   pub none_before : lookup (is_same_name name) (all_globals (take index sources)) ≡ None

@@ -70,11 +70,11 @@ abbrev pub beginning_at : ℕ → List Source → Transfer → ℕ
 beginning_at bottom sources transfer =
     modulo (contribution bottom sources transfer.module_index transfer.section + transfer.value)
 
--- the first even transfer address; without one it is 1, where no program starts
+-- the first even transfer address, or 1, where no program starts, if there is none
 abbrev pub beginning : ℕ → List Source → ℕ
 beginning bottom sources = unwrap_or (find is_even (map (beginning_at bottom sources) (all_transfers sources))) 1
 
--- those texts of the sources that aren't empty, each at its address with the values that its relocations store
+-- the non-empty texts of the sources, each at its address and with the values that its relocations store
 abbrev pub linked_blocks : ℕ → List Source → List (ℕ × Bytes)
 linked_blocks bottom sources =
     filter (λ text. has_data text.1) (map (linked_text (findings_of bottom (link_parts sources))) (all_texts sources))

@@ -46,7 +46,7 @@ object_of source = flat_map block (data_of source)
 abbrev pub LiesAtWord : Piece → Type 0
 LiesAtWord piece = piece.location < 2 ^ 16
 
--- a source whose object can be written and read back
+-- the object of the source can be written and read back
 pub record SourceFits (source : Source) : Type 0 where
   -- the fields of each record fit, and its bytes fit a block
   pub records : AllByRecursion Fits (contents_of source)
@@ -77,7 +77,8 @@ pub record IsReadBack (source : Source) : Type 0 where
   pub whole : Module
   pub is_whole : source_parts source ≡ module_parts whole
 
--- the transfer entry of the source with this index: its transfer address; without one the entry is 1 in `. ABS.`, where no program starts
+-- the transfer entry of the source with this index: the source's transfer address; or 1 in `. ABS.`, where no program starts, if the source
+-- has none
 abbrev pub transfer_at : ℕ → Option Quantity → Transfer
 transfer_at index (Some value) = record { module_index = index; section = home value.kind; value = value.number }
 transfer_at index None = record { module_index = index; section = absolute_name; value = 1 }

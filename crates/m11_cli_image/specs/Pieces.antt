@@ -20,7 +20,7 @@ pub record Spot : Type 0 where
   pub base : ℕ
   pub address : ℕ
 
--- the spot at an address, which is taken modulo 200000 (octal)
+-- the spot at an address modulo 200000 (octal)
 abbrev pub spot : ℕ → ℕ → ℕ → Spot
 spot source base address = record { source = source; base = base; address = modulo address }
 

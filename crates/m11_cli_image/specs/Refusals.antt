@@ -41,7 +41,7 @@ own_names source = map name_of (sections_of source)
 abbrev pub IsOwn : Source → Name → Type 0
 IsOwn source name = is_among (own_names source) name ≡ true
 
--- a value that is relative to a section is relative to a section of the source
+-- if a value is relative to a section, that section is one of the source's
 abbrev pub KindIsOwn : Source → RelocationKind → Type 0
 KindIsOwn source (kind.Section name) = IsOwn source name
 KindIsOwn source (kind.SectionDisplaced name) = IsOwn source name
@@ -56,7 +56,7 @@ pub record PieceIsOwn (source : Source) (piece : Piece) : Type 0 where
   pub section : IsOwn source piece.section
   pub content : ContentIsOwn source piece.content
 
--- the piece, whose location is a word, has a byte at octal 177777, the last location of a section
+-- the piece, whose location is below 65536, has a byte at octal 177777, the last location of a section
 abbrev pub covers_last : Piece → Bool
 covers_last piece = nat_le 0o200000 (piece.location + size_of piece)
 
@@ -109,7 +109,7 @@ globals_named sources = distinct (flat_map own_globals sources)
 abbrev pub is_long : Source → Bool
 is_long source = nat_lt most_bytes (length (object_of source))
 
--- the section is relocatable and ends above octal 160000, where the device registers are
+-- the section is relocatable and ends above octal 160000, where the device registers begin
 abbrev pub ends_high : ℕ → List Source → Name → Bool
 ends_high bottom sources name = is_relocatable (attributes_of sources name)
     && nat_lt 0o160000 (base_of bottom sources name + own.size_of sources name)
@@ -117,9 +117,9 @@ ends_high bottom sources name = is_relocatable (attributes_of sources name)
 abbrev pub is_large : ℕ → List Source → Bool
 is_large bottom sources = list_any (ends_high bottom sources) (names_of sources)
 
--- the fault is that of an exceeded limit (more than 32 sources; more than 256 names of sections, or 8,192 of globals, in all; an object of
--- more than 4,194,304 bytes; a relocatable section that ends above octal 160000), or that of a text outside its section, and then some
--- source has a byte at the last location of a section
+-- The fault is that of an exceeded limit: more than 32 sources; more than 256 names of sections, or 8,192 of globals, in all; an object of
+-- more than 4,194,304 bytes; or a relocatable section that ends above octal 160000. Or it is that of a text outside its section, and then
+-- some source has a byte at the last location of a section.
 abbrev pub IsOfSizes : ℕ → List Source → LinkFault → Type 0
 IsOfSizes bottom sources fault.TooManyModules = most_modules < length sources
 IsOfSizes bottom sources fault.TooManySections = most_sections < length (names_of sources)

@@ -60,7 +60,7 @@ sizes_of sources name = filter_map (size_under name) (map size_entered (all_sect
 abbrev pub size_of : List Source → Name → ℕ
 size_of sources name = total (attributes_of sources name) (sizes_of sources name)
 
--- the number of addresses that a section occupies from the bottom on; an absolute section occupies none
+-- the number of addresses that a section takes up among the relocatable sections; 0 for an absolute section
 abbrev pub room_of : List Source → Name → ℕ
 room_of sources name = if is_relocatable (attributes_of sources name) then size_of sources name else 0
 
@@ -70,13 +70,14 @@ names_of sources = distinct (map name_of (all_sections sources))
 
 -- ---- addresses of sections
 
--- the address of a section: a relocatable one follows the relocatable sections that appeared before it; an absolute one is at 0
+-- the address of a section: the first relocatable one is at `bottom`, and each other one after those that appeared before it; an absolute
+-- one is at 0
 abbrev pub base_of : ℕ → List Source → Name → ℕ
 base_of bottom sources name =
     if is_relocatable (attributes_of sources name)
     then bottom + sum_by (room_of sources) (names_before name (names_of sources)) else 0
 
--- the address after all relocatable sections
+-- the address after all relocatable sections; the bottom if there are none
 abbrev pub top_of : ℕ → List Source → ℕ
 top_of bottom sources = bottom + sum_by (room_of sources) (names_of sources)
 

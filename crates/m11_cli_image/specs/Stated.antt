@@ -79,8 +79,8 @@ packed_stated (first ∷ (second ∷ (third ∷ codes))) =
 
 -- ---- instructions: the code word, and a word for each operand that has one
 
--- the words of an operand, one or none: an index has its value, and `@(Rn)` the word 0; in the modes that use PC, `#n` and `@#n` have the
--- value of n; `A` and `@A` have the distance of A from the location after the word
+-- the words that an operand states, one or none: for an index its value, and for `@(Rn)` the word 0; in the modes that use PC, for `#n` and
+-- `@#n` the value of n, and for `A` and `@A` the distance of A from the location after the word
 abbrev pub form_stated : LineContext → Form Expression → List Stated
 form_stated line_context Absent = []
 form_stated line_context (InRegister kind register) = []

@@ -53,7 +53,7 @@ worked_source lines = record {
 abbrev pub worked_sources : List Source
 worked_sources = worked_source fetching ∷ worked_source giving ∷ []
 
--- the first source contributes six bytes from octal 1000 on, and the second one two
+-- the addresses of the program: the first source contributes six bytes at octal 1000, and the second one two bytes at octal 1006
 abbrev pub worked_addresses : Addresses
 worked_addresses = record {
   base = λ source name. if source == 0 then 0o1000 else 0o1006;
@@ -62,7 +62,7 @@ worked_addresses = record {
   top = 0o1010;
 }
 
--- MOV, the distance of VALUE from octal 1004, HALT; and octal 123
+-- the words of the program at their addresses: MOV, the distance of VALUE from octal 1004, HALT, and octal 123
 abbrev pub worked_bytes : List (ℕ × Bytes)
 worked_bytes =
     (0o1000, 0o300 ∷ 0o035 ∷ [])

@@ -2,7 +2,7 @@
 //! definitions of the assembler and the linker say what a linker reads from the object of a source, and why a link may be refused. They
 //! also say that the tape of a link holds the image, and the image the bytes that the lines of the sources state; where labels and globals
 //! lie; and that relative words and branches lead to their targets. Each law is the contract of a function that does nothing but call the
-//! laws from which its own follows, if there are any.
+//! laws needed to prove it, if there are any.
 #![tactic(auto)]
 
 // What a linker reads from one object, and the values that relocations store in its texts.

@@ -42,9 +42,9 @@ pub fn linked_texts_end_by_the_last_address()
         → AllByRecursion (EndsInside bottom sources) (all_texts sources) }
 {}
 
-/// If a link accepts the objects of sources that fit, the parts that it accepts are exactly those of the objects. The link's tape has a
-/// block for each text of the sources that has data, and the start of the tape is the first even transfer address of a source, or 1 if
-/// there is none.
+/// If a link accepts the objects of sources that fit, it accepts exactly the parts of the objects. The link's tape has a block
+/// for each text of the sources that has data, and the start of the tape is the first even transfer address of a source, or 1 if there is
+/// none.
 pub fn links_write_the_texts_of_their_sources()
     ensures { (bottom : ℕ) (sources : List Source) (items : List Item) (parts : List Part) → AllByRecursion SourceFits sources
         → AreItems (map object_of sources) items → outcome bottom items ≡ Ok parts → AreLinked bottom sources parts }

@@ -25,8 +25,8 @@ pub fn texts_are_read_back()
     ensures { (source : Source) → HasTexts source }
 {}
 
-/// If a link accepts the objects of sources that fit, the parts that it accepts are exactly those of the first source's object and the end
-/// of that object's file, then those of the next one, and so on.
+/// If a link accepts the objects of sources that fit, it accepts exactly these parts, in order: for each source, the parts of its object,
+/// and then the end of the object's file.
 pub fn objects_yield_their_parts()
     ensures { (sources : List Source) (items : List Item) (parts : List Part) → AllByRecursion SourceFits sources
         → AreItems (map object_of sources) items → taken [] items ≡ Ok parts → parts ≡ link_parts sources }

@@ -10,9 +10,9 @@ ghost use Rattle.m11_cli_image.specs.Refusals.{IsConsistent, IsOfSizes, IsWithin
 ghost use Rattle.m11_cli_image.specs.Sources.{Source};
 
 /// A link of the objects of sources that fit and are consistent is refused only for an exceeded limit or for a text outside its section.
-/// The limits are on sources, names of sections, names of globals, the length of an object, and the address at which a relocatable section
-/// ends. If a text is outside its section, some source has a byte at the last location of a section. No block, no record, no order of
-/// records and no relocation of such objects is refused.
+/// The limits are on the numbers of sources, of names of sections and of names of globals, on the length of an object, and on the address
+/// at which a relocatable section ends. If a text is outside its section, some source has a byte at the last location of a section. No
+/// block, no record, no order of records and no relocation of such objects is refused.
 pub fn links_are_refused_for_sizes_alone()
     ensures { (bottom : ℕ) (sources : List Source) (items : List Item) (stopped : LinkFault) → AllByRecursion SourceFits sources
         → AllByRecursion IsConsistent sources → AreItems (map object_of sources) items → outcome bottom items ≡ Err stopped

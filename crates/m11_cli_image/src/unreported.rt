@@ -10,8 +10,8 @@ ghost use Rattle.m11_link_text.specs.Findings.{findings_of};
 ghost use Rattle.m11_base_writes.specs.Writes.{gained};
 ghost use Rattle.m11_cli_image.specs.Agreement.{AbsolutesAgree};
 
-/// If a link of the objects of sources writes no message, no section that one source calls ABS is REL in the program. So the laws with that
-/// premise hold of each program whose link reports nothing.
+/// If a link of the objects of sources writes no message, no section that one source calls ABS is REL in the program. So the laws that
+/// assume `AbsolutesAgree` hold of each program whose link writes no message.
 pub fn links_without_messages_agree()
     ensures { (bottom : ℕ) (sources : List Source)
         → gained link Messages (link_writes (findings_of bottom (link_parts sources)) (link_parts sources)) ≡ []

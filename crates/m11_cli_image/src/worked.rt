@@ -6,8 +6,9 @@ ghost use Rattle.m11_cli_image.specs.Agreement.{AbsolutesAgree, AreOf};
 ghost use Rattle.m11_cli_image.specs.Lines.{all_lying};
 ghost use Rattle.m11_cli_image.specs.Worked.{fetching, giving, worked_addresses, worked_bytes, worked_sources};
 
-/// From octal 1000 on, the lines of the worked program state the octal words 016700, 000002, 000000 and 000123. The pieces of its sources,
-/// linked from octal 1000 on, have the same bytes, and the premises of the laws of values hold of the sources.
+/// The lines of the worked program state the octal words 016700, 000002, 000000 and 000123, the first of them at octal 1000. The pieces of
+/// its sources, linked with relocatable sections that begin at octal 1000, have the same bytes at the same addresses. The premises of the
+/// laws about values hold of the sources.
 pub fn the_worked_program_states_four_words()
     ensures lines { AreOf (fetching ∷ giving ∷ []) worked_sources }
     ensures agree { AbsolutesAgree worked_sources }

@@ -9,7 +9,7 @@ use Rattle.m11_base_writes.proofs.Writing.{keeps}
 use Rattle.m11_base_writes.specs.States.{OutputState}
 use Rattle.m11_cli_reports.specs.Reports.{Reports, ReportsSome}
 
--- a put that succeeded or failed
+-- if a call put a whole text and counted no failure, or failed after a prefix of it and counted the failure, then it reported the text
 pub reports : {X E : Type 0} (r : Result X E) (text : List ℕ) (old new : OutputState)
     → OnOk r (Appends old.text new.text text) → OnOk r (new.faults ≡ old.faults)
     → OnErr r (AppendsBeginning old.text new.text text) → OnErr r (Rises old.faults new.faults)
@@ -26,7 +26,7 @@ pub then_at_error : {X E : Type 0} (r : Result X E) (P Q : Type 0) → (P → Q)
 then_at_error (Ok x) P Q f p = tt
 then_at_error (Err e) P Q f p = f p
 
--- some text, and nothing put
+-- if this text was reported, some text was; if nothing changed, the empty text was reported
 pub reports_some : (text : List ℕ) (old new : OutputState) → Reports text old new → ReportsSome old new
 reports_some text old new h = (text, h)
 

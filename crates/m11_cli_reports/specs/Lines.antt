@@ -10,7 +10,7 @@ use Rattle.m11_base.specs.Devices.{Bytes}
 abbrev pub line : List Bytes → Bytes
 line words = join_with_byte 0o40 words ++ 0o12 ∷ []
 
--- the line of a fault: the command, the fault's number and name, and its additions
+-- the line for a fault: the command, the fault's number and name, and its additions
 abbrev pub line_for : Bytes → ℕ → Bytes → List Bytes → Bytes
 line_for command number name more =
     line (codes "?M11" ∷ command ∷ decimal number ∷ name ∷ more)

@@ -36,7 +36,7 @@ abbrev pub words_status : WordsFault → ℕ
 words_status words.NoMemory = 5
 words_status (words.NotText number) = 2
 
--- the line for NoMemory is reported; or the line of a word that is not UTF-8, unless memory is refused for that line
+-- the line for NoMemory is reported; or the line for a word that is not UTF-8, unless memory is refused for that line
 abbrev pub ReportsOfWords : WordsFault → OutputState → OutputState → Type 0
 ReportsOfWords words.NoMemory old new = Reports (usage_line NoMemory) old new
 ReportsOfWords (words.NotText number) old new = MayReport (refusal_line number) old new

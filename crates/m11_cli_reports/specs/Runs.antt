@@ -1,4 +1,4 @@
--- The status of a run of a tape, and the line of its fault. (This project's own.)
+-- The status of a run of a tape, and the line for its fault. (This project's own.)
 use Rattle.std.specs.Prelude.{List, [], ◌∷◌, ℕ, codes}
 use Rattle.m11_base.specs.Devices.{Bytes}
 use Rattle.m11_cpu.specs.Fault.{sim_fault_name, sim_fault_number}
@@ -49,7 +49,7 @@ sim_added (sim.Load fault) = []
 sim_added sim.Write = codes "MESSAGES" ∷ []
 sim_added sim.NoMemory = []
 
--- the line of a fault of a run
+-- the line for a fault of a run
 abbrev pub sim_line : SimFault → Bytes
 sim_line fault =
     line_for (codes "SIM") (sim_fault_number fault) (sim_fault_name fault) (sim_added fault)

@@ -16,7 +16,7 @@ usage_status BadAddress = 2
 usage_status BadCount = 2
 usage_status NoMemory = 5
 
--- the line of a fault of the command line; empty for help and for a refusal by the parser, which have texts of their own
+-- the line for a fault of the command line; empty for help and for a refusal by the parser, which have texts of their own
 abbrev pub usage_line : UsageFault → Bytes
 usage_line (Help error) = []
 usage_line (Words error) = []

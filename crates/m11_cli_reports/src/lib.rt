@@ -1,5 +1,5 @@
-//! What a program reports about refused command lines, files that can't be opened and faults of a run; and the exit statuses of refused
-//! command lines, of runs, and of links that end early.
+//! What a program reports about refused command lines, files that can't be opened or created, and faults of a run; and the exit statuses
+//! of refused command lines, of runs, and of links that end early.
 #![tactic(auto)]
 
 mod links;

@@ -5,7 +5,7 @@ ghost use Rattle.m11_cli_reports.specs.Links.{link_status};
 
 use m11_link_layout::LinkFault;
 
-/// The status of a link that ended early: 3 a device, 4 a malformed object, 5 no memory, 6 a limit.
+/// The status of a link that ended early: 3 a device that failed, 4 a malformed object, 5 no memory, 6 a limit.
 pub fn link_status(fault: LinkFault) -> u8
     ensures { result ≡ link_status fault }
 {

@@ -58,7 +58,8 @@ pub fn report_not_opened<S: Sink>(path: &str, sink: &mut S)
     let _ = put_not_opened(path, sink);
 }
 
-// Writes the line for a file that can't be opened or created. Error: `Device` if the sink fails after a prefix of the line.
+// Writes the line for a file that can't be opened or created. Error: `Device`, if the sink fails or accepts none of the bytes left; a
+// prefix of the line was put then, perhaps none of it.
 fn put_not_opened<S: Sink>(path: &str, sink: &mut S) -> Result<(), PutFault>
     ensures whole { OnOk result (Appends (S.text sink.old) (S.text sink.new) (open_line path.now)) }
     ensures sound { OnOk result (S.faults sink.new ≡ S.faults sink.old) }
@@ -72,7 +73,7 @@ fn put_not_opened<S: Sink>(path: &str, sink: &mut S) -> Result<(), PutFault>
 }
 
 /// Replaces the work of a program whose arguments could not be read: reports why, and returns the exit status, 5 if memory was refused and
-/// otherwise 2. The line of a word that isn't UTF-8 is left out if memory is refused for that line.
+/// otherwise 2. The line for a word that isn't UTF-8 is left out if memory is refused for that line.
 pub fn command_without_words<E: Sink>(alloc: Global, fault: WordsFault, err: &mut E) -> u8
     ensures status { result ≡ words_status fault }
     ensures reported { ReportsOfWords fault (output_of E.Sink err.old) (output_of E.Sink err.new) }

@@ -1,4 +1,4 @@
-//! The status of a run of a tape, and the line of its fault.
+//! The status of a run of a tape, and the line for its fault.
 
 ghost use Rattle.std.specs.Prelude.{◌≡◌};
 ghost use Rattle.m11_cpu.specs.declared.fault.LoadFault.TheVariants.{Tape};
@@ -8,7 +8,7 @@ ghost use Rattle.m11_cli_reports.specs.Runs.{sim_line, sim_status, stop_status, 
 use m11_cpu::{LoadFault, SimFault, Stop};
 use m11_obj_blocks::TapeFault;
 
-/// The status of a run that stopped: 0 halted, 3 a device, otherwise 1.
+/// The status of a run that stopped: 0 halted, 3 a device that failed, otherwise 1.
 pub fn stop_status(stop: Stop) -> u8
     ensures { result ≡ stop_status stop }
 {
@@ -19,7 +19,7 @@ pub fn stop_status(stop: Stop) -> u8
     }
 }
 
-/// The status of a tape that is refused: 3 a device, 6 a tape of more than 4,194,304 bytes, otherwise 4.
+/// The status of a tape that is refused: 3 a device that failed, 6 a tape of more than 4,194,304 bytes, otherwise 4.
 pub fn tape_status(fault: TapeFault) -> u8
     ensures { result ≡ tape_status fault }
 {
@@ -48,7 +48,7 @@ pub fn sim_status(fault: SimFault) -> u8
     }
 }
 
-/// The line of a fault of a run.
+/// The line for a fault of a run.
 #[tactic(auto, unfolding(crate::proofs::Decimals::decimals))]
 pub fn sim_line(fault: SimFault) -> &'static str
     ensures { result.now ≡ sim_line fault }
@@ -61,7 +61,7 @@ pub fn sim_line(fault: SimFault) -> &'static str
     }
 }
 
-// The line of a fault of the tape.
+// The line for a fault of the tape.
 #[tactic(auto, unfolding(crate::proofs::Decimals::decimals))]
 fn tape_line(fault: TapeFault) -> &'static str
     ensures { result.now ≡ sim_line (Load (Tape fault)) }

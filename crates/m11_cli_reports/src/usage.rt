@@ -20,7 +20,7 @@ pub fn usage_status(fault: &UsageFault) -> u8
     }
 }
 
-/// The line of a fault of the command line; empty for help and for a refusal by the parser, which have texts of their own.
+/// The line for a fault of the command line; empty for help and for a refusal by the parser, which have texts of their own.
 #[tactic(auto, unfolding(crate::proofs::Decimals::decimals))]
 pub fn usage_line(fault: &UsageFault) -> &'static str
     ensures { result.now ≡ usage_line fault.now }

@@ -1,4 +1,4 @@
--- A bottom or a start has one of three faults, and the words then yield that fault.
+-- The fault of a bottom or of a start is one of three, and the command line yields that fault.
 use Rattle.std.proofs.Common.{◌≡◌, ◌∙◌, ap, sym, subst, refl, Bool, true, false, ℕ, List, [], Option, Some, None, Result, Ok, Err, ◌⊎◌, inl, inr, codes, option_map}
 use Rattle.std.specs.Prelude.{if◌then◌else◌, nat_lt, ◌==◌, ◌%◌, ⊤, IsErrAnd}
 use Rattle.std.specs.Borrow.{Bor}
@@ -17,14 +17,14 @@ pub err_is : {X E : Type 0} (r : Result X E) (e : E) → IsErrAnd r (λ y. y ≡
 err_is (Ok x) e h = absurd h
 err_is (Err y) e h = ap Err h
 
--- if the text of a start has a fault, the start has it
+-- if the text of a start has a fault, the start has that fault
 pub start_refused : (f : Found) (id : Text) (o : Option (Bor Text)) (text : Bor Text) (fault : UsageFault)
     → option_map (λ s. s.now) o ≡ first_value f id → o ≡ Some text → Err fault ≡ address_of text.now
     → Err fault ≡ start_of (first_of id (rows_of f))
 start_refused f id o text fault got some bad =
     ap start_at bad ∙ ap start_of (sym (first_given f id o got ∙ ap (option_map (λ s. s.now)) some))
 
--- the bottom is the address or the fault of its text
+-- the bottom is the address that its text spells, or the fault of that text
 pub bottom_spelled : (f : Found) (id : Text) (o : Option (Bor Text)) (text : Bor Text) (r : Result ℕ UsageFault)
     → option_map (λ s. s.now) o ≡ first_value f id → o ≡ Some text → r ≡ address_of text.now
     → r ≡ bottom_of (first_of id (rows_of f))
@@ -93,7 +93,7 @@ bottom_gives entered rows fault is (inr e) =
     refused entered fault (subst (λ o. HasAddressFault o fault) (sym is) (inl (refl, e)))
     (of_bottom (first_of (codes "bottom") rows) fault e)
 
--- if the parser accepts the words, they yield the result of their entries
+-- if the parser accepts a command line, its result is that of its entries
 pub planned : (words : List Text) (entered : Option (Text × List Row)) (r : Result Task UsageFault)
     → fault_of application words ≡ [] → entered ≡ subcommand_of application words → EntriesGive entered r → Plans words r
 planned words entered (Ok task) free is given = (free, subst (λ o. IsTask o task) is given)

@@ -10,7 +10,7 @@ use Rattle.m11_cli_tasks.specs.declared.usage.UsageFault.{UsageFault}
 use Rattle.m11_cli_tasks.specs.declared.usage.UsageFault.TheVariants.{BadCount}
 use Rattle.m11_cli_tasks.proofs.Numbers.{not_read, was_read}
 
--- a number that was read, as a count
+-- the number that was read, as a count; `BadCount` if none was read
 abbrev pub counted : {E : Type 0} → Result ℕ E → Result ℕ UsageFault
 counted (Ok number) = count_within number
 counted (Err e) = Err BadCount

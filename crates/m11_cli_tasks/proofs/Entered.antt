@@ -41,7 +41,7 @@ some_entered None e = cc
 some_entered (Some b) e =
     (((out-SubCommand (box_value b)).name.now, rows_of (found_of (out-SubCommand (box_value b)).matches)), refl, refl)
 
--- a parse of a command that requires a subcommand has entered one of its own
+-- a parse of a command that requires a subcommand has entered one of that command's subcommands
 pub entered_command : (c : Command) (m : ArgMatches) (a : App) (words : List Text) → app_of c ≡ a
     → (out-Command c).has_globals ≡ false → IsParsedFrom c m → HasMatchesOf (app_of c) words m
     → is_simple a ≡ true → a.top.subcommand_required ≡ true
@@ -58,7 +58,7 @@ pub excluded : {X : Type 0} (o : Option X) → IsSome o → ((x : X) → o ≡ S
 excluded None some none = cc
 excluded (Some x) some none = none x refl
 
--- a parse of a simple command without refusals has the entries of the words
+-- a parse of a simple command has the subcommand and the entries that the words give
 pub entered_free : (c : Command) (m : ArgMatches) (a : App) (words : List Text) → app_of c ≡ a → is_simple a ≡ true
     → HasMatchesOf (app_of c) words m → subcommand_rows_of m ≡ subcommand_of a words
 entered_free c m a words app simple matches =

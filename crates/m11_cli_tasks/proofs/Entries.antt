@@ -11,25 +11,25 @@ use Rattle.clap.specs.declared.parser.matches.ArgMatches.TheViews.{out-ArgMatche
 use Rattle.clap.specs.declared.parser.matches.SubCommand.{SubCommand}
 use Rattle.clap.proofs.WalkLemmas.{first_value-rows, raw_values-rows}
 
--- the first value that a getter returns
+-- the first value that a getter returns is the first one of the entries
 pub first_given : (f : Found) (id : Text) (o : Option (Bor Text)) → option_map (λ s. s.now) o ≡ first_value f id
     → first_of id (rows_of f) ≡ option_map (λ s. s.now) o
 first_given f id o e = sym (e ∙ first_value-rows f id)
 
--- the first value, or a reference to an empty text
+-- the first value that a getter returns, or else the empty text, is the first one of the entries, or else the empty text
 pub first_is : (f : Found) (id : Text) (o : Option (Bor Text)) (d : Bor Text)
     → option_map (λ s. s.now) o ≡ first_value f id → d.now ≡ []
     → (unwrap_or o d).now ≡ unwrap_or (first_of id (rows_of f)) []
 first_is f id None d e empty = empty ∙ ap (λ t. unwrap_or t []) (e ∙ first_value-rows f id)
 first_is f id (Some s) d e empty = ap (λ t. unwrap_or t []) (e ∙ first_value-rows f id)
 
--- all values, as texts
+-- all values that a getter returns are those of the entries, or there are none
 pub all_are : (f : Found) (id : Text) (o : Option (List Text))
     → o ≡ option_map raw_values (matched_of f id)
     → unwrap_or o [] ≡ unwrap_or (all_of id (rows_of f)) []
 all_are f id o e = ap (λ t. unwrap_or t []) (e ∙ raw_values-rows f id)
 
--- a subcommand's name and its entries, if both are known
+-- if a parse has this subcommand name and these entries, it has entered the subcommand with them
 pub entered_is : (m : ArgMatches) (name : Text) (rows : List Row) → subcommand_name_of m ≡ Some name
     → option_map (λ p. p.1) (subcommand_rows_of m) ≡ Some rows
     → subcommand_rows_of m ≡ Some (name, rows)

@@ -11,12 +11,13 @@ use Rattle.clap.proofs.ValueTestLemmas.{Accepts-accepts, accepts-Accepts}
 use Rattle.clap.proofs.WalkLemmas.{both, one_text-rows}
 use Rattle.m11_cli_tasks.specs.Tasks.{number_or}
 
--- a number that was read, if it is within the bounds
+-- the number that was read, if there is one and it is within the bounds; otherwise `other`
 abbrev pub within_or : ℕ → ℕ → ℕ → Option ℕ → ℕ
 within_or other least most None = other
 within_or other least most (Some n) = if nat_le least n && nat_le n most then n else other
 
--- a value made from the number of a text that a parser of type u32 reads, or a different value if the number isn't within the bounds
+-- whether a parser of type u32 reads a number from a text or not, the same value is made: `make` of the number if it is within the bounds,
+-- else `other`
 module _ {A : Type 0} (make : ℕ → A) (other : A) (least most : ℕ) (fits : most < 2 ^ 32) where
   pub not_read : (t : Text) (b : Bool) → is_unsigned_in least most t ≡ b
       → ¬ (IsNumeral 10 (without_leading_plus t) × (digits_value 10 (without_leading_plus t) < 2 ^ 32))
@@ -46,7 +47,7 @@ module _ {A : Type 0} (make : ℕ → A) (other : A) (least most : ℕ) (fits : 
       ) in
       absurd (false≢true (sym e ∙ inside))
 
--- the number read from an option
+-- the number of an option is the same by what the parser read and by the option's text
 module _ {E : Type 0} (G : List ℕ → Result ℕ E → Type 0) (other least most : ℕ)
     (parses : (u : List ℕ) (x : Result ℕ E) → G u x → ParsesUnsigned 32 10 u x) (fits : most < 2 ^ 32) where
   read_number : (t : Text) (r : Option ℕ) → ReadsOne G t r

@@ -10,7 +10,7 @@ use Rattle.m11_cli_tasks.specs.Opened.{LacksFirst, LacksOne, Names, Stops, texts
 use Rattle.m11_cli_tasks.specs.declared.opened.OpenFault.{OpenFault}
 use Rattle.m11_cli_tasks.specs.declared.opened.OpenFault.TheVariants.{NotOpened, NoMemory}
 
--- a path with a text exists
+-- if the file at a path has a text, there is a file at this path
 pub there : (files : Option Files) (path : List ℕ) (text : Option Text) → Holds files path text → Has files path
 there None path text h = tt
 there (Some files) path text h = let P : Option Text → Type 0 = λ t. IsSome t in subst P (sym h.0) h.1
@@ -29,14 +29,14 @@ module _ {I : Type 0} (text : I → Option Text) (files : Option Files) where
   one_more (p ∷ paths) [] path input h more = absurd h
   one_more (p ∷ paths) (x ∷ inputs) path input h more = (h.0, one_more paths inputs path input h.1 more)
 
--- the texts of the first paths and one more
+-- the first i + 1 paths are the first i paths and the path at index i
 pub texts_more : (paths : List (Bor (List ℕ))) (i : ℕ) (d : Bor (List ℕ)) → i < length paths
     → texts (take (suc i) paths) ≡ texts (take i paths) ++ (slice_index_or paths i d).now ∷ []
 texts_more [] i d lt = absurd (omega arith)
 texts_more (p ∷ paths) zero d lt = refl
 texts_more (p ∷ paths) (suc i) d lt = ap (λ rest. p.now ∷ rest) (texts_more paths i d (omega arith))
 
--- the texts split into those of the first paths, one more, and the rest
+-- the paths are the first i paths, the path at index i, and the paths after it
 pub texts_split : (paths : List (Bor (List ℕ))) (i : ℕ) (d : Bor (List ℕ)) → i < length paths
     → texts paths ≡ texts (take i paths) ++ (slice_index_or paths i d).now ∷ texts (drop (suc i) paths)
 texts_split [] i d lt = absurd (omega arith)
@@ -45,7 +45,8 @@ texts_split (p ∷ paths) (suc i) d lt = ap (λ rest. p.now ∷ rest) (texts_spl
 
 -- ---- inputs
 
--- one more input, for the next path
+-- if inputs are the files at the first i paths, and one more input is the file at the next path, then they are the files at the first i + 1
+-- paths
 pub next_input : {I : Type 0} (text : I → Option Text) (files : Option Files) (paths : List (Bor (List ℕ))) (i : ℕ)
     (d : Bor (List ℕ)) (inputs : List I) (input : I) → i < length paths
     → AreFiles text files (texts (take i paths)) inputs → Holds files (slice_index_or paths i d).now (text input)
@@ -55,7 +56,7 @@ next_input {I} text files paths i d inputs input lt before h =
     rw (add-one i) (subst P (sym (texts_more paths i d lt))
     (one_more text files (texts (take i paths)) inputs (slice_index_or paths i d).now input before h))
 
--- after the last path all inputs are open
+-- if inputs are the files at the first i paths, and there are no more paths, they are the files at all paths
 pub all_inputs : {I : Type 0} (text : I → Option Text) (files : Option Files) (paths : List (Bor (List ℕ))) (i : ℕ)
     (inputs : List I) → i ≡ length paths → AreFiles text files (texts (take i paths)) inputs
     → AreFiles text files (texts paths) inputs
@@ -76,7 +77,8 @@ lacking files paths i d (NotOpened reported) lt before h =
     )
 lacking files paths i d NoMemory lt before h = tt
 
--- the first path that doesn't exist, after those that do
+-- if inputs are the files at the first i paths, and the next one can't be opened, then its path is the first without a file, or memory was
+-- refused
 pub first_lacking : {I : Type 0} (text : I → Option Text) (files : Option Files) (paths : List (Bor (List ℕ))) (i : ℕ)
     (d : Bor (List ℕ)) (inputs : List I) (fault : OpenFault) → i < length paths
     → AreFiles text files (texts (take i paths)) inputs → LacksOne files (slice_index_or paths i d).now fault
@@ -96,7 +98,7 @@ creates_none None = refl
 creates_none (Some files) =
     ap (λ made. let f : Files = record { held = files.held; made = made } in Some f) (append-nil files.made)
 
--- files that are created after others
+-- to create a file and then more files is to create all of them in order
 pub creates_more : (first : List ℕ) (more : List (List ℕ)) (files : Option Files)
     → creating more (creating (first ∷ []) files) ≡ creating (first ∷ more) files
 creates_more first more None = refl
@@ -104,13 +106,13 @@ creates_more first more (Some files) =
     ap (λ made. let f : Files = record { held = files.held; made = made } in Some f)
     (append_assoc files.made (is_made first ∷ []) (map is_made more))
 
--- a stop at an input
+-- if an input can't be opened and nothing was created, opening stopped at that input
 pub stops_at_input : (old new : Option Files) (inputs outputs : List (List ℕ)) (fault : OpenFault) → new ≡ old
     → LacksFirst old inputs fault → Stops old new inputs outputs fault
 stops_at_input old new inputs outputs (NotOpened reported) same h = inl (h, same)
 stops_at_input old new inputs outputs NoMemory same h = inl same
 
--- the only input can't be opened
+-- if the only input can't be opened and nothing was created, opening stopped at it
 pub stops_at_one : (old new : Option Files) (path : List ℕ) (outputs : List (List ℕ)) (fault : OpenFault) → new ≡ old
     → LacksOne old path fault → Stops old new (path ∷ []) outputs fault
 stops_at_one old new path outputs (NotOpened reported) same h =
@@ -129,7 +131,7 @@ at_first old new inputs rest path (NotOpened reported) there same h = inr (
 )
 at_first old new inputs rest path NoMemory there same h = inl same
 
--- a stop at the first output, when all inputs are open
+-- if all inputs were opened and the first output couldn't be created, opening stopped at that output
 pub stops_at_first : {I : Type 0} (text : I → Option Text) (old middle new : Option Files) (inputs rest : List (List ℕ))
     (opened : List I) (path : List ℕ) (fault : OpenFault) → AreFiles text old inputs opened → middle ≡ old
     → new ≡ middle → Names (path ∷ []) fault → Stops old new inputs (path ∷ rest) fault
@@ -143,7 +145,7 @@ at_second old new inputs rest path (NotOpened reported) there made h =
     inr (there, path ∷ [], [], ap (λ last. path ∷ last) h, made)
 at_second old new inputs rest path NoMemory there made h = inr (there, path ∷ [], rest, refl, made)
 
--- a stop at the second output, when the first one was created
+-- if all inputs were opened and the first output was created, but not the second one, opening stopped at the second one
 pub stops_at_second : {I : Type 0} (text : I → Option Text) (old first second new : Option Files)
     (inputs rest : List (List ℕ)) (opened : List I) (path : List ℕ) (fault : OpenFault)
     → AreFiles text old inputs opened → first ≡ old → second ≡ creating (path ∷ []) first → new ≡ second

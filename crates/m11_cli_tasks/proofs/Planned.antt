@@ -1,4 +1,4 @@
--- The result of the words of a program without commands.
+-- The result of a command line of a program without commands.
 use Rattle.std.proofs.Common.{◌≡◌, ◌≢◌, ◌∙◌, List, [], Result, Ok, Err, inl, inr, subst, sym, ap}
 use Rattle.std.specs.Prelude.{IsErrAnd}
 use Rattle.clap.specs.Kinds.{HasKind, Kinds}
@@ -11,7 +11,7 @@ use Rattle.m11_cli_tasks.specs.Usage.{UsageKeeps}
 use Rattle.m11_cli_tasks.specs.declared.usage.UsageFault.{UsageFault}
 use Rattle.m11_cli_tasks.specs.declared.usage.UsageFault.TheVariants.{Help, Words, BadOctal, OddAddress, BadAddress, BadCount, NoMemory}
 
--- a refusal of the parser
+-- an error with a kind that the parser may report becomes a fault with which the parser may refuse the command line
 help_is : (kinds : Kinds) (e error : Error) → HasKind kinds e → error ≡ e → kind_of e ≡ kind.DisplayHelp
     → (kind_of error ≡ kind.DisplayHelp) × IsAmong kind.DisplayHelp kinds
 help_is kinds e error (inl memory) same is = absurd cc
@@ -39,7 +39,7 @@ module _ {A : Type 0} (app : App) (Gives : List Row → Result A UsageFault → 
   refused e (Ok task) has h = absurd h
   refused e (Err fault) has h = inl (refusal (fault_of app words) e fault has h)
 
-  -- if the parser accepts the words, their result is that of the entries
+  -- if the parser accepts a command line, its result is that of its entries
   pub planned : (rows : List Row) (r : Result A UsageFault) → fault_of app words ≡ [] → rows ≡ matches_of app words → Gives rows r
       → Plans app Gives words r
   planned rows (Ok task) free is given = let P : List Row → Type 0 = λ x. Gives x (Ok task) in (free, subst P is given)

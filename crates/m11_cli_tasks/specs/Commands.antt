@@ -9,12 +9,12 @@ use Rattle.clap.specs.declared.builder.command.Command.{Command}
 use Rattle.clap.specs.declared.builder.command.Command.TheViews.{out-Command}
 use Rattle.clap.specs.declared.builder.value_parser.ValueParser.TheVariants.{Signed}
 
--- an argument with this rule, which belongs to its own command only
+-- the argument has this rule, and belongs to its own command only
 pub record IsArgument (rule : Rule) (argument : Arg) : Type 0 where
   pub is : rule_of argument ≡ rule
   pub local : argument.global ≡ false
 
--- a command with this definition, whose arguments all belong to it alone
+-- the command has this definition, and its arguments all belong to it alone
 pub record IsCommand (app : App) (command : Command) : Type 0 where
   pub is : app_of command ≡ app
   pub local : (out-Command command).has_globals ≡ false
@@ -36,7 +36,7 @@ operand_rule name action = record (new_rule name) {
   required = true;
 }
 
--- `-o FILE`, `--output FILE`: the object or the tape to write, which is required
+-- `-o FILE`, `--output FILE`, which is required: the object or the tape to write
 abbrev pub output_rule : Rule
 output_rule = record (option_rule (codes "output") 0o157) { required = true }
 

@@ -14,12 +14,12 @@ use Rattle.m11_cli_tasks.specs.declared.tasks.SimTask.{SimTask}
 abbrev pub texts : List (Bor Bytes) → List Bytes
 texts paths = map (λ path. path.now) paths
 
--- the path as a list, which is empty if there is none
+-- the path as a list; empty if there is no path
 abbrev pub optional : Option (Bor Bytes) → List Bytes
 optional None = []
 optional (Some path) = path.now ∷ []
 
--- the paths that a task reads, and those that it writes
+-- the paths of the files that a task reads, and of those that it writes
 abbrev pub asm_inputs : AsmTask → List Bytes
 asm_inputs task = texts task.sources.items
 
@@ -53,7 +53,7 @@ abbrev pub Stops : Option Files → Option Files → List Bytes → List Bytes �
 Stops old new inputs outputs (NotOpened path) = StopsAt old new inputs outputs path.now
 Stops old new inputs outputs NoMemory = (new ≡ old) ⊎ CreatesSome old new inputs outputs
 
--- a count of refusals rises if and only if a file couldn't be opened or created
+-- a count of refusals rises if a file couldn't be opened or created, and is unchanged if memory was refused
 abbrev pub Counts : ℕ → ℕ → OpenFault → Type 0
 Counts old new (NotOpened path) = Rises old new
 Counts old new NoMemory = new ≡ old
@@ -64,17 +64,18 @@ CountsOpening old new (Err fault) = Counts old new fault
 
 -- ---- parts of the opening
 
--- the reason why one input can't be opened: its path is reported, and it doesn't exist; or memory was refused
+-- the reason why one input can't be opened: there is no file at its path, which is reported; or memory was refused
 abbrev pub LacksOne : Option Files → Bytes → OpenFault → Type 0
 LacksOne files path (NotOpened reported) = (reported.now ≡ path) × Lacks files path
 LacksOne files path NoMemory = ⊤
 
--- the reason why several inputs can't all be opened: the reported path is the first that doesn't exist; or memory was refused
+-- the reason why several inputs can't all be opened: the reported path is the first one at which there is no file; or memory was
+-- refused
 abbrev pub LacksFirst : Option Files → List Bytes → OpenFault → Type 0
 LacksFirst files paths (NotOpened reported) = IsFirstLacking files paths reported.now
 LacksFirst files paths NoMemory = ⊤
 
--- the fault of creating the output whose path is the only one in the list: that path is reported; or memory was refused
+-- the fault of creating the output whose path is the only one in the list: `NotOpened` with that path, or `NoMemory`
 abbrev pub Names : List Bytes → OpenFault → Type 0
 Names paths (NotOpened reported) = paths ≡ reported.now ∷ []
 Names paths NoMemory = ⊤

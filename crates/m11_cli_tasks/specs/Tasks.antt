@@ -15,14 +15,15 @@ use Rattle.m11_cli_tasks.specs.declared.tasks.Task.TheVariants.{Asm, Link, Sim}
 use Rattle.m11_cli_tasks.specs.declared.usage.UsageFault.{UsageFault}
 use Rattle.m11_cli_tasks.specs.declared.usage.UsageFault.TheVariants.{Help, Words, BadOctal, OddAddress, BadAddress, BadCount, NoMemory}
 
--- the assembly that options and arguments specify: the object is the first value of `output`; the listing is that of `listing`, if there
--- is one; the sources are all values of `sources`, in order
+-- the assembly that options and arguments specify: the object is the first value of `output`; the listing is the first value of `listing`,
+-- if there is one; the sources are all values of `sources`, in order
 pub record IsAsmTask (rows : List Row) (task : AsmTask) : Type 0 where
   pub object : task.object.now ≡ unwrap_or (first_of (codes "output") rows) []
   pub listing_path : option_map (λ path. path.now) task.listing ≡ first_of (codes "listing") rows
   pub sources : map (λ s. s.now) task.sources.items ≡ unwrap_or (all_of (codes "sources") rows) []
 
--- a word as an address of memory: refused if it is odd, then if it is above octal 157776, outside the largest memory
+-- a word as an address of memory: `OddAddress` if it is odd; else `BadAddress` if it is above octal 157776, and so outside the largest
+-- memory
 abbrev pub address_of_word : ℕ → Result ℕ UsageFault
 address_of_word word =
     if word % 2 == 1 then Err OddAddress
@@ -50,8 +51,9 @@ abbrev pub bottom_of : Option Text → Result ℕ UsageFault
 bottom_of None = Ok default_bottom
 bottom_of (Some text) = address_of text
 
--- the link that options and arguments specify: the tape is the first value of `output`; the map is that of `map`, if there is one; the
--- bottom is that of `bottom`, or octal 1000; the objects are all values of `objects`, in order
+-- the link that options and arguments specify: the tape is the first value of `output`; the map is the first value of `map`, if there is
+-- one; the bottom is the address that the first value of `bottom` spells, or octal 1000 without one; the objects are all values of
+-- `objects`, in order
 pub record IsLinkTask (rows : List Row) (task : LinkTask) : Type 0 where
   pub tape : task.tape.now ≡ unwrap_or (first_of (codes "output") rows) []
   pub map_path : option_map (λ path. path.now) task.map ≡ first_of (codes "map") rows
@@ -74,34 +76,35 @@ abbrev pub count_of : Text → Result ℕ UsageFault
 count_of text =
     if is_unsigned_in 1 most_steps text then Ok (digits_value 10 (without_leading_plus text)) else Err BadCount
 
--- the run that options and arguments specify: the tape is the first value of `tape`; the start is that of `start`, if there is one; the
--- size of memory and the limit of steps are the numbers of `words` and `steps`, or 28,672 and a million
+-- the run that options and arguments specify: the tape is the first value of `tape`; the start is the address that the first value of
+-- `start` spells, if there is one; the size of memory and the limit of steps are the numbers of `words` and `steps`, or else 28,672 and
+-- 1,000,000
 pub record IsSimTask (rows : List Row) (task : SimTask) : Type 0 where
   pub tape : task.tape.now ≡ unwrap_or (first_of (codes "tape") rows) []
   pub start : start_of (first_of (codes "start") rows) ≡ Ok task.start
   pub words : task.words ≡ number_or most_words least_words most_words (one_of (codes "words") rows)
   pub limit : task.limit ≡ number_or default_steps 0 most_steps (one_of (codes "steps") rows)
 
--- an even address inside the largest memory
+-- the address is even and inside the largest memory
 abbrev pub IsEvenAddress : ℕ → Type 0
 IsEvenAddress address = (address % 2 ≡ 0) × (address ≤ 0o157776)
 
--- all numbers of a task are in range: bottom and start are even addresses inside the largest memory, and the size of memory and the limit
--- of steps are within their bounds
+-- all numbers of a task are in range: the bottom, and the start if there is one, are even addresses inside the largest memory; the size of
+-- memory and the limit of steps are within their bounds
 abbrev pub IsDoable : Task → Type 0
 IsDoable (Asm task) = ⊤
 IsDoable (Link task) = IsEvenAddress task.bottom
 IsDoable (Sim task) = (least_words ≤ task.words) × (task.words ≤ most_words)
     × (task.limit ≤ most_steps) × IfSome task.start IsEvenAddress
 
--- the task of the command that was entered, from its options and arguments
+-- this is the task that the options and arguments of the entered command specify
 abbrev pub IsTask : Option (Text × List Row) → Task → Type 0
 IsTask None task = ⊥
 IsTask (Some entered) (Asm task) = (entered.0 ≡ codes "asm") × IsAsmTask entered.1 task
 IsTask (Some entered) (Link task) = (entered.0 ≡ codes "link") × IsLinkTask entered.1 task
 IsTask (Some entered) (Sim task) = (entered.0 ≡ codes "sim") × IsSimTask entered.1 task
 
--- the fault of the bottom entered for a link, or of the start entered for a run
+-- this is the fault of the bottom entered for a link, or of the start entered for a run
 abbrev pub HasAddressFault : Option (Text × List Row) → UsageFault → Type 0
 HasAddressFault None fault = ⊥
 HasAddressFault (Some entered) fault =
@@ -118,7 +121,7 @@ abbrev pub IsCommandName : Option Text → Type 0
 IsCommandName None = ⊥
 IsCommandName (Some name) = IsOneOf name (codes "asm" ∷ codes "link" ∷ codes "sim" ∷ [])
 
--- the result of the options and arguments of a command: its task, or the fault of its address; memory may be refused
+-- the options and arguments of a command have this result: its task, or the fault of its address; memory may be refused for any command
 abbrev pub EntriesGive : Option (Text × List Row) → Result Task UsageFault → Type 0
 EntriesGive entered (Ok task) = IsTask entered task
 EntriesGive entered (Err (Help error)) = ⊥
@@ -134,8 +137,8 @@ abbrev pub IsAddressRefused : List Text → UsageFault → Type 0
 IsAddressRefused words fault =
     (fault_of application words ≡ []) × HasAddressFault (subcommand_of application words) fault
 
--- the result of a command line: a task if it isn't refused, otherwise one of its refusals, those of the parser before those of addresses;
--- memory may be refused for any command line
+-- A command line has this result. If the parser refuses it, the result is the parser's refusal; if an address in it has a fault, that
+-- fault; otherwise its task. Memory may be refused for any command line.
 abbrev pub Plans : List Text → Result Task UsageFault → Type 0
 Plans words (Ok task) =
     (fault_of application words ≡ []) × IsTask (subcommand_of application words) task

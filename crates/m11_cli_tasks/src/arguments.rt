@@ -40,8 +40,8 @@ pub fn words<R: Env + AllocGlobal>(rt: &R) -> Result<Vec<String>, WordsFault> {
     Ok(words)
 }
 
-// The word with this number, or None after the last one. The buffer doubles until the word fits. Errors: `NotText`; `NoMemory`, even for a
-// word that fits no buffer.
+// The word with this number, or `None` after the last one. The buffer doubles until the word fits. Errors: `NotText`; `NoMemory`, also for
+// a word that fits no buffer.
 fn word<R: Env + AllocGlobal>(rt: &R, number: usize) -> Result<Option<String>, WordsFault> {
     let mut size = SHORT;
     for _ in 0..usize::BITS {

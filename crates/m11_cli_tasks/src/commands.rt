@@ -7,7 +7,7 @@ ghost use Rattle.m11_cli_tasks.specs.Commands.{IsArgument, IsCommand, applicatio
 use clap::{Arg, ArgAction, Command, value_parser};
 use std::alloc::{AllocError, Global};
 
-/// The command line of `m11`, which requires one of its three commands. `AllocError` if memory is refused.
+/// The command line of `m11`, which requires one of its three commands. Error: memory was refused.
 pub(crate) fn application_command<'a>(alloc: Global) -> Result<Command<'a>, AllocError>
     ensures { IfOk result (IsCommand application) }
 {
@@ -139,7 +139,7 @@ fn operand_argument<'a>(
         .action(action)
 }
 
-/// `-o FILE`, the file to write, which is required.
+/// `-o FILE`, which is required: the file to write.
 fn output_argument<'a>(alloc: Global, value: &'a str, help: &'a str) -> Arg<'a>
     ensures { IsArgument output_rule result }
 {

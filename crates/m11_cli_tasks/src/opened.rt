@@ -57,9 +57,9 @@ pub struct LinkFiles<I, O> {
     pub map: Option<O>,
 }
 
-/// Opens the sources in order, each for both passes, then creates the object, or empties the file there, and then the listing if one is
-/// asked for. Errors: `NotOpened` with the first path that can't be opened or created, and nothing is opened or created after it;
-/// `NoMemory`.
+/// Opens the sources in order, each for both passes. Then creates the object, and after it the listing if one is asked for; a file that
+/// already exists is emptied. Errors: `NotOpened` with the first path that can't be opened or created, and nothing is opened or created
+/// after it; `NoMemory`.
 pub fn open_asm_files<'a, F: Opens>(
     alloc: Global,
     files: &mut F,
@@ -89,8 +89,9 @@ pub fn open_asm_files<'a, F: Opens>(
     })
 }
 
-/// Opens the objects in order, each for both passes, then creates the tape, or empties the file there, and then the map if one is asked
-/// for. Errors: `NotOpened` with the first path that can't be opened or created, and nothing is opened or created after it; `NoMemory`.
+/// Opens the objects in order, each for both passes. Then creates the tape, and after it the map if one is asked for; a file that already
+/// exists is emptied. Errors: `NotOpened` with the first path that can't be opened or created, and nothing is opened or created after it;
+/// `NoMemory`.
 pub fn open_link_files<'a, F: Opens>(
     alloc: Global,
     files: &mut F,
@@ -179,7 +180,7 @@ fn open_twice<'a, F: Opens>(
     }
 }
 
-// Creates the output at this path; None without a path. Errors: those of `create`.
+// Creates the output at this path; `None` without a path. Errors: those of `create`.
 fn create_some<'a, F: Opens>(
     files: &mut F,
     path: Option<&'a str>,

@@ -16,7 +16,7 @@ use std::convert::AsStr;
 /// An assembly, with its paths as given on the command line.
 #[derive(Debug, Drop)]
 pub struct AsmTask<'a> {
-    /// The path of the object module.
+    /// The path of the object.
     pub object: &'a str,
     /// The path of the listing, if one is asked for.
     pub listing: Option<&'a str>,
@@ -31,7 +31,7 @@ pub struct LinkTask<'a> {
     pub tape: &'a str,
     /// The path of the map, if one is asked for.
     pub map: Option<&'a str>,
-    /// The first address of relocatable sections: even, at most 0o157776.
+    /// The first address of relocatable sections: even, at most octal 157776.
     pub bottom: u16,
     /// The paths of the objects, in order.
     pub objects: Vec<&'a str>,
@@ -42,7 +42,7 @@ pub struct LinkTask<'a> {
 pub struct SimTask<'a> {
     /// The path of the tape.
     pub tape: &'a str,
-    /// The start address that replaces the tape's own, if one is asked for: even, at most 0o157776.
+    /// The start address that replaces the tape's own, if one is asked for: even, at most octal 157776.
     pub start: Option<u16>,
     /// The number of words of memory, 4,096 to 28,672.
     pub words: u16,

@@ -28,7 +28,7 @@ byte_is (b ∷ given) byte e =
 pub byte_took : (old new : Position) (byte : ℕ) → Reads data_byte old new byte → Took old new (byte ∷ [])
 byte_took old new byte r = subst (λ (given : List ℕ). Took old new given) (byte_is r.given byte (r.is [])) r.took
 
--- ---- one block more
+-- ---- one more block
 
 pub after_more : (read : Reader) (blocks : List (ℕ × List ℕ)) (address : ℕ) (content : List ℕ)
     → part_after read (blocks ++ (address, content) ∷ []) ≡ next_part (total_of address content)
@@ -80,7 +80,7 @@ is_tape blocks start a b c given took held last =
     tape_framed blocks start (given ++ last.given) (bytes_then given last.given took.bytes last.took.bytes)
     (are_read first_part blocks start given last.given held last.is)
 
--- ---- the part before which a reader is
+-- ---- the part that a reader reads next
 
 -- a reader in this stage reads the next part with this function
 abbrev pub IsBeforePart : TapeStage → (List ℕ → Read TapeFault TapePart) → Type 0

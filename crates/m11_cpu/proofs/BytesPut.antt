@@ -13,7 +13,7 @@ none_put address memory =
     let e : address + 0 ≡ address = omega arith in
     ap (λ (k : ℕ). take address memory ++ drop k memory) e ∙ take-append-drop address memory
 
--- one more byte
+-- storing one more byte right after stored bytes gives the memory with all of them stored at once
 pub one_put : (address byte : ℕ) (bytes memory : List ℕ) → address + length bytes < length memory
     → with_byte (address + length bytes) byte (with_bytes address bytes memory)
     ≡ with_bytes address (bytes ++ byte ∷ []) memory
@@ -45,7 +45,7 @@ one_inside size address byte bytes inside last index lt =
       | inr following ↦ omega arith
     ]
 
--- one more block
+-- storing the blocks of a list with one more block at its end is storing that block after the others
 pub block_put : (blocks : List (ℕ × List ℕ)) (address : ℕ) (bytes memory : List ℕ)
     → stored (blocks ++ (address, bytes) ∷ []) memory ≡ with_bytes address bytes (stored blocks memory)
 block_put [] address bytes memory = refl

@@ -13,7 +13,7 @@ use Rattle.m11_cpu.specs.Loading.{with_bytes, AreInside, PutSome, GivesOutside}
 use Rattle.m11_cpu.proofs.BytesPut.{none_put, one_put, none_inside, one_inside}
 use Rattle.m11_cpu.proofs.BlocksRead.{byte_took}
 
--- `index` bytes of the open block were read and put into memory
+-- the first `index` data bytes of the block whose header was read last were read and put into memory
 pub record Taking (old here : Position) (before now : List ℕ) (address count index : ℕ) (stage : TapeStage)
     (taken : List ℕ) : Type 0 where
   pub long : length taken ≡ index

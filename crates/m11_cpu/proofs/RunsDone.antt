@@ -15,7 +15,7 @@ use Rattle.m11_cpu_machine.proofs.Dialogues.{comes, then_does}
 abbrev pub ran : Stop → ℕ → Ran
 ran stop steps = record { stop = stop; steps = steps }
 
--- after `done` steps, the rest of a run leads to the whole run
+-- `done` steps and a rest of the run after them make the whole run, which has the stop of the rest and `done` more steps
 abbrev pub GoesOn : ℕ → ℕ → Machine → Machine → Devices → Devices → Type 0
 GoesOn limit done m m' old middle = (stop : Stop) (steps : ℕ) (new : Devices) (n : Machine)
     → Does (run_counted (limit - done) m') middle new (ran stop steps, n)
@@ -63,7 +63,7 @@ at_once_does : (m n : Machine) (d : Devices) → step m ≡ Comes (Next, n) → 
 at_once_does m n d e =
     let P : Dialogue (Turn × Machine) → Type 0 = λ x. Does x d d (Next, n) in subst P (sym e) (comes d _ _ refl)
 
--- the same for steps made at once
+-- if `GoesOn` holds after `done` steps, it also holds after `quick` further steps that exchange nothing, within the limit
 pub quick_goes_on : (limit done quick : ℕ) (m m' m'' : Machine) (old middle : Devices) → done + quick ≤ limit
     → GoesOn limit done m m' old middle → StepsAtOnce quick m' m'' → GoesOn limit (done + quick) m m'' old middle
 unfolding StepsAtOnce

@@ -16,7 +16,7 @@ use Rattle.m11_cpu.specs.Loading.{with_bytes, AreInside, part_after, PutBlocks, 
 use Rattle.m11_cpu.proofs.BytesPut.{block_put, block_inside}
 use Rattle.m11_cpu.proofs.BlocksRead.{after_more, hold_more, is_tape, IsBeforePart, next_is}
 
--- these blocks were read and put, and the reader is before the part after them
+-- these blocks were read and put into memory, and the reader reads the part after them next
 pub record Loading (old here : Position) (before now : List ℕ) (stage : TapeStage) (blocks : List (ℕ × List ℕ)) : Type
     0 where
   pub put : PutBlocks old here before now blocks
@@ -124,7 +124,7 @@ module _ (old here : Position) (before now : List ℕ) (stage : TapeStage) (bloc
 
 -- ---- failures of the feed
 
--- a part or byte that could not be read
+-- if a part or byte could not be read, the feed's count of failures is as `CountsFailure` says
 stop_counts : {A : Type 0} (read : List ℕ → Read TapeFault A) (a b : Position) (fault : TapeFault)
     → Stops read a b (why_of fault) → CountsFailure a.faults b.faults (Err (Tape fault))
 stop_counts read a b fault.Device s = rw (sym s.1.1.faults) s.1.2.1

@@ -1,4 +1,4 @@
--- The faults of a run, each with its number and its name, which its printed line shows. (This project's own: no manual has them.)
+-- The faults of a run, each with the number and the name that the line reporting it shows. (This project's own: no manual has them.)
 use Rattle.std.specs.Prelude.{ℕ, codes}
 use Rattle.m11_base.specs.Devices.{Bytes}
 use Rattle.m11_obj_blocks.specs.Tapes.{tape_fault_name, tape_fault_number}

@@ -17,27 +17,30 @@ use Rattle.m11_cpu.specs.declared.fault.LoadFault.TheVariants.{Tape, OutsideMemo
 
 -- ---- memory
 
--- the memory with these bytes stored from an address on
+-- the memory with these bytes stored, the first of them at this address
 abbrev pub with_bytes : ℕ → Bytes → Bytes → Bytes
 with_bytes address bytes memory = take address memory ++ (bytes ++ drop (address + length bytes) memory)
 
--- each byte has an address in a memory of this size; addresses don't wrap around to 0 after octal 177777
+-- these bytes, the first of them at this address, all have addresses in a memory of this many bytes; addresses don't wrap around to 0
+-- after octal 177777
 abbrev pub AreInside : ℕ → ℕ → Bytes → Type 0
 AreInside size address bytes = (index : ℕ) → index < length bytes → address + index < size
 
--- the memory with these blocks stored, each an address and its bytes; a later block replaces the bytes of an earlier one
+-- the memory with these blocks stored in order; each block is an address and its bytes, and a later block overwrites an earlier one
 abbrev pub stored : List (ℕ × Bytes) → Bytes → Bytes
 stored [] memory = memory
 stored (block ∷ blocks) memory = stored blocks (with_bytes block.0 block.1 memory)
 
 -- ---- reading the feed
 
--- the function that reads the part of a tape after these blocks: it first reads the checksum of the last of them, if there is one
+-- the function that reads the part of a tape after these blocks: `read` if there are no blocks, otherwise a function that first reads the
+-- checksum of the last block
 abbrev pub part_after : (Bytes → Read TapeFault TapePart) → List (ℕ × Bytes) → Bytes → Read TapeFault TapePart
 part_after read [] = read
 part_after read (block ∷ blocks) = part_after (next_part (total_of block.0 block.1)) blocks
 
--- bytes that hold these blocks: for each block the bytes that are read as its header, and then its data
+-- the bytes are exactly these blocks in order: for each block, the bytes that are read as the checksum of the block before it, if there is
+-- one, and as its header; and then its data
 abbrev pub Hold : (Bytes → Read TapeFault TapePart) → List (ℕ × Bytes) → Bytes → Type 0
 Hold read [] bytes = bytes ≡ []
 Hold read (block ∷ blocks) bytes = (header : Bytes) × (following : Bytes) × (bytes ≡ header ++ (block.1 ++ following))
@@ -46,7 +49,7 @@ Hold read (block ∷ blocks) bytes = (header : Bytes) × (following : Bytes) × 
 
 -- ---- a load
 
--- blocks were read and put into memory, and each byte has an address there
+-- these blocks were read and put into memory, and each of their bytes has an address inside it
 pub record PutBlocks (old new : Position) (before after : Bytes) (blocks : List (ℕ × Bytes)) : Type 0 where
   pub given : Bytes
   pub took : Took old new given
@@ -54,14 +57,14 @@ pub record PutBlocks (old new : Position) (before after : Bytes) (blocks : List 
   pub inside : AllByRecursion (λ block. AreInside (length before) block.0 block.1) blocks
   pub memory : after ≡ stored blocks before
 
--- fewer than `count` bytes were read and put into memory from this address on, and each has an address there
+-- these bytes, fewer than `count`, were read and put into memory, the first at this address, and each has an address inside memory
 pub record PutSome (old new : Position) (before after : Bytes) (address count : ℕ) (taken : Bytes) : Type 0 where
   pub took : Took old new taken
   pub some : length taken < count
   pub inside : AreInside (length before) address taken
   pub memory : after ≡ with_bytes address taken before
 
--- a byte was read whose address is outside memory
+-- a byte was read, and its address is outside a memory of this size
 abbrev pub GivesOutside : Position → Position → ℕ → ℕ → Type 0
 GivesOutside old new size address = (byte : ℕ) × Took old new (byte ∷ []) × (size ≤ address)
 
@@ -73,15 +76,15 @@ pub record LoadsTape (old new : Position) (before after : Bytes) (start : ℕ) :
   pub last : Reads (part_after first_part blocks) following new (Start start)
   pub tape : IsTape blocks start (put.given ++ last.given)
 
--- some blocks of a tape were read and put into memory, and the part after them can't be read
+-- some blocks of a tape, perhaps none, were read and put into memory, and the part after them could not be read
 pub record StopsAtPart (old new : Position) (before after : Bytes) (fault : TapeFault) : Type 0 where
   pub blocks : List (ℕ × Bytes)
   pub following : Position
   pub put : PutBlocks old following before after blocks
   pub stops : Stops (part_after first_part blocks) following new (why_of fault)
 
--- some blocks of a tape were read and put into memory; of the next block, the header was read, and fewer than all of its data bytes were
--- read and put into memory
+-- some blocks of a tape, perhaps none, were read and put into memory; then the header of the next block was read, and fewer than all of
+-- its data bytes were read and put into memory
 pub record InsideData (old new : Position) (before after : Bytes) (address : ℕ) (taken : Bytes) : Type 0 where
   pub blocks : List (ℕ × Bytes)
   pub following : Position
@@ -92,7 +95,7 @@ pub record InsideData (old new : Position) (before after : Bytes) (address : ℕ
   pub header : Reads (part_after first_part blocks) following opened (Data address count)
   pub part : PutSome opened new held after address count taken
 
--- the outcome of a load: a whole tape was read; or a part or a byte of data couldn't be read; or a byte lies outside memory; after
+-- a load has this outcome: a whole tape was read; or a part or a byte of data couldn't be read; or a byte lies outside memory; after
 -- a fault the memory holds the bytes that came before it
 abbrev pub Loads : Position → Position → Bytes → Bytes → Result ℕ LoadFault → Type 0
 Loads old new before after (Ok start) = LoadsTape old new before after start
@@ -104,7 +107,7 @@ Loads old new before after (Err OutsideMemory) =
     (address : ℕ) × (taken : Bytes) × (here : Position) × InsideData old here before after address taken
     × GivesOutside here new (length before) (address + length taken)
 
--- the outcome of a load from a feed, from which at most `most_bytes` bytes are read, the most that a tape may have
+-- a load from a feed has this outcome; at most `most_bytes` bytes are read from the feed, the most that a tape may have
 abbrev pub LoadsFrom : Option Text → Option Text → ℕ → ℕ → Bytes → Bytes → Result ℕ LoadFault → Type 0
 LoadsFrom text text' faults faults' before after result =
     (room : ℕ) × Loads (position text faults most_bytes) (position text' faults' room) before after result
@@ -119,7 +122,7 @@ abbrev pub start_address : Result program.Start LoadFault → Result ℕ LoadFau
 start_address (Ok start) = Ok start.address
 start_address (Err fault) = Err fault
 
--- the outcome of a load into a machine: nothing of the machine changes but its memory, and the feed counts a failure of its device
+-- a load into a machine has this outcome; nothing of the machine changes but its memory, and the feed counts a failure of its device
 abbrev pub LoadsInto : Option Text → Option Text → ℕ → ℕ → Machine → Machine → Result ℕ LoadFault → Type 0
 LoadsInto text text' faults faults' before after result =
     LoadsFrom text text' faults faults' before.memory after.memory result
@@ -127,8 +130,8 @@ LoadsInto text text' faults faults' before after result =
 
 -- ---- one block
 
--- the outcome of putting a block's data into memory after its header was read: all bytes, or those before one that can't be read or lies
--- outside memory; `span` is the block's address and the number of its bytes
+-- after a block's header was read, putting the block's data into memory has this outcome: all bytes were stored, or those before a byte
+-- that can't be read or lies outside memory; `span` is the block's address and the number of its bytes, and `content` the bytes stored
 abbrev pub PutsData : {A : Type 0} → Position → Position → Bytes → Bytes → ℕ × ℕ → Bytes → Result A LoadFault → Type 0
 PutsData old new before after span content (Ok done) =
     (length content ≡ span.1) × Took old new content × AreInside (length before) span.0 content

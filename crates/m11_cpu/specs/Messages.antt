@@ -19,7 +19,7 @@ end_line name steps = name ++ (codes " AFTER " ++ (decimal steps ++ codes " STEP
 abbrev pub register_text : List ℕ → ℕ → Bytes
 register_text registers number = octal_text (slice_index_or registers number 0)
 
--- the second line: the registers, the last two by the names SP and PC, and the PSW
+-- the second line: the registers, the last two named SP and PC, and the PSW
 unfoldable pub register_line : List ℕ → ℕ → Bytes
 register_line registers psw =
     codes "R0 " ++ (register_text registers 0
@@ -36,11 +36,11 @@ register_line registers psw =
 abbrev pub end_text : Bytes → ℕ → List ℕ → ℕ → Bytes
 end_text name steps registers psw = end_line name steps ++ register_line registers psw
 
--- the two lines of a stop
+-- the two lines that report a stop
 abbrev pub messages_of : Stop → ℕ → List ℕ → ℕ → Bytes
 messages_of stop steps registers psw = end_text (stop_name stop) steps registers psw
 
--- the text was written, or the sink failed after a prefix of it
+-- the text was written, or the sink failed after accepting a prefix of it (`Write`); no other fault occurs
 abbrev pub PutsMessages : {A : Type 0} → Option Bytes → Option Bytes → ℕ → ℕ → Bytes → Result A SimFault → Type 0
 PutsMessages old new faults faults' text (Ok done) = Appends old new text × (faults' ≡ faults)
 PutsMessages old new faults faults' text (Err Write) = AppendsBeginning old new text × Rises faults faults'

@@ -1,4 +1,4 @@
--- A whole run: a tape is loaded into a new machine and started, and its stop is reported. (This project's own.)
+-- A whole run: a tape is loaded into a new machine, its program is run, and the stop of the run is reported. (This project's own.)
 use Rattle.std.specs.Prelude.{◌≡◌, ℕ, ◌%◌, ◌==◌, if◌then◌else◌, Option, unwrap_or, Result, Ok, Err}
 use Rattle.std.specs.Io.KnownBytes.{Appends}
 use Rattle.m11_base.specs.Devices.{Bytes, Rises}
@@ -23,7 +23,8 @@ started address limit m =
     if address % 2 == 1 then Comes (record { stop = NoStart; steps = 0 }, m)
     else run_counted limit (with_register Pc address m)
 
--- the arguments of a run: a start that replaces the tape's, the number of words of memory, and the limit on the number of steps
+-- the arguments of a run: the start that replaces the tape's transfer address, if any, the number of words of memory, and the limit on the
+-- number of steps
 pub record Request : Type 0 where
   pub start : Option ℕ
   pub words : ℕ
@@ -41,12 +42,12 @@ pub record RunDevices : Type 0 where
 abbrev pub run_devices : Input → Devices → Output → RunDevices
 run_devices tape console messages = record { tape = tape; console = console; messages = messages }
 
--- the result of a load of the tape into a new machine: the transfer address, or the fault that stopped the load
+-- a load of the tape into a new machine had this result, the transfer address or the fault that stopped the load, and left this machine
 abbrev pub Loaded : ℕ → Input → Input → Machine → Result ℕ LoadFault → Type 0
 Loaded words tape tape' m result = LoadsInto tape.text tape'.text tape.faults tape'.faults (new_machine words) m result
 
--- the tape was loaded, and the program was started at the tape's transfer address or at the start that replaces it; an odd one
--- starts nothing
+-- the tape was loaded, and the run from the tape's transfer address, or from the start that replaces it, had this outcome and left this
+-- machine; an odd address starts nothing
 pub record HasRun (request : Request) (before after : RunDevices) (ran : Ran) (m : Machine) : Type 0 where
   pub transfer : ℕ
   pub loaded : Machine
@@ -56,7 +57,7 @@ pub record HasRun (request : Request) (before after : RunDevices) (ran : Ran) (m
 abbrev pub text_at_stop : Ran → Machine → Bytes
 text_at_stop ran m = messages_of ran.stop ran.steps m.registers (psw_in m)
 
--- the outcome of a whole run: its stop, which the messages report; or the tape could not be loaded, and nothing was run or
+-- a whole run has this outcome: its stop, which the messages report; or the tape could not be loaded, and nothing was run or
 -- reported; or the messages could not be written completely; or memory was refused before anything was read
 abbrev pub Simulates : Request → RunDevices → RunDevices → Result SimDone SimFault → Type 0
 Simulates request before after (Ok done) =

@@ -19,13 +19,13 @@ pub enum LoadFault {
     OutsideMemory,
 }
 
-/// Why a run ended without a stop.
+/// Why a whole run failed: nothing was run, or its stop could not be reported in full.
 #[derive(Clone, Copy, Debug, PartialEq, Eq, Error)]
 pub enum SimFault {
     /// 1 to 10: the tape could not be loaded.
     #[error("the tape was not loaded")]
     Load(LoadFault),
-    /// 11: the messages could not be written.
+    /// 11: the messages could not be written completely.
     #[error("the messages could not be written")]
     Write,
     /// 90: memory was refused.
@@ -36,7 +36,7 @@ pub enum SimFault {
 impl LoadFault {
     ghost use Rattle.m11_cpu.specs.Fault.{load_fault_name, load_fault_number};
 
-    /// The fault's number, 1 to 10, as its printed line shows it.
+    /// The fault's number, 1 to 10, as the line that reports the fault shows it.
     pub fn number(self) -> u8
         ensures { result ≡ load_fault_number self }
     {
@@ -46,7 +46,7 @@ impl LoadFault {
         }
     }
 
-    /// The fault's name, as its printed line shows it.
+    /// The fault's name, as the line that reports the fault shows it.
     pub fn name(self) -> &'static str
         ensures { result.now ≡ load_fault_name self }
     {
@@ -60,7 +60,7 @@ impl LoadFault {
 impl SimFault {
     ghost use Rattle.m11_cpu.specs.Fault.{sim_fault_name, sim_fault_number};
 
-    /// The fault's number, 1 to 11 or 90, as its printed line shows it.
+    /// The fault's number, 1 to 11 or 90, as the line that reports the fault shows it.
     pub fn number(self) -> u8
         ensures { result ≡ sim_fault_number self }
     {
@@ -71,7 +71,7 @@ impl SimFault {
         }
     }
 
-    /// The fault's name, as its printed line shows it. The name of `Write` doesn't say which output failed.
+    /// The fault's name, as the line that reports the fault shows it. The name of `Write` doesn't say which output failed; the line does.
     pub fn name(self) -> &'static str
         ensures { result.now ≡ sim_fault_name self }
     {

@@ -1,8 +1,8 @@
-//! Runs of the PDP-11/40: a tape is loaded into the memory of a machine and run, with a polled console and a limit on the number of steps,
-//! and its stop is reported. `m11_cpu_machine` defines the machine and its steps.
+//! Runs of the PDP-11/40: a tape is loaded into the memory of a machine, its program is run with a polled console and a limit on the number
+//! of steps, and the stop of the run is reported. `m11_cpu_machine` defines the machine and its steps.
 #![tactic(auto)]
 
-// The machine that callers use, and the results of its steps.
+// The machine that callers use, its memory, and the results of its steps.
 mod machine;
 
 pub use m11_cpu_machine::{Memory, Stop, Turn};

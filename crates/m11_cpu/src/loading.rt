@@ -24,8 +24,8 @@ impl Machine {
     /// Puts the data of one tape into memory, where a later byte replaces an earlier one at the same address, and returns where the tape's
     /// program starts. The program counter stays as it is. Nothing is read after the transfer block, and no memory is allocated.
     ///
-    /// `OutsideMemory`: the address of a byte is outside memory. Any other fault is the tape's, the first in the order of its bytes. After
-    /// a fault the memory holds the bytes that came before it.
+    /// `OutsideMemory`: the address of a byte is outside memory. `Tape`: a fault of the tape. The first fault in the order of the tape's
+    /// bytes is returned; the memory then holds the bytes that came before it.
     pub fn load<F: Feed>(&mut self, tape: &mut F) -> Result<Start, LoadFault>
         ensures { LoadsInto (F.text tape.old) (F.text tape.new) (F.faults tape.old) (F.faults tape.new)
             self.old self.new (start_address result) }
@@ -35,7 +35,8 @@ impl Machine {
     }
 }
 
-// Puts the data of the open block into memory, from `address` on. Errors: a byte can't be read, or its address is outside memory.
+// Reads the `count` data bytes of the block whose header was read last, and puts them into memory, the first at `address`. Errors: a byte
+// can't be read, or its address is outside memory.
 fn load_block<F: Feed>(
     memory: &mut Memory,
     reader: &mut TapeReader,

@@ -1,5 +1,5 @@
-//! The machine that callers use. It wraps the machine of `m11_cpu_machine`, and callers see only what the calls of this crate return. The
-//! modules after this one load a tape into it and run it.
+//! The machine that callers use. It wraps the machine of `m11_cpu_machine` and hides its fields. The module `loading` loads a tape into it,
+//! and the module `runs` makes its steps.
 
 ghost use Rattle.std.specs.Prelude.{◌≡◌, ◌<◌, ◌≤◌, IfOk, nat_lt, slice_index};
 ghost use Rattle.m11_base.specs.declared.operand.Register.TheVariants.{Pc};
@@ -31,7 +31,7 @@ impl Model for Machine {
 impl Machine {
     /// A machine with `words` words of memory, 4,096 to 28,672. Memory, registers and processor status are 0.
     ///
-    /// An error if memory is refused. No other call allocates memory.
+    /// Error: memory was refused. No other call allocates memory.
     pub fn new(alloc: Global, words: u16) -> Result<Machine, AllocError>
         requires least { least_words ≤ words }
         requires most { words ≤ most_words }
@@ -43,7 +43,7 @@ impl Machine {
     }
 
     /// Sets the program counter to any address. If the address is odd, or neither in memory nor that of a device register or the processor
-    /// status word, the next step of a machine that isn't stopped traps through 4.
+    /// status word, the next step traps through 4, unless an earlier stop lasts (see `step`).
     pub fn start_at(&mut self, address: u16)
         ensures { self.new ≡ with_register Pc address self.old }
     {
@@ -91,7 +91,7 @@ impl Machine {
         self.inner.byte(address)
     }
 
-    /// The bytes of memory, from address 0 on.
+    /// The bytes of memory, in the order of their addresses, which begin at 0.
     #[inline(always)]
     pub fn memory(&self) -> &Memory
         ensures { result.now ≡ self.now.memory }
@@ -100,11 +100,11 @@ impl Machine {
     }
 
     /// Makes one step: reads, decodes and executes the instruction at the program counter, and takes the traps that it leads to.
-    /// Returns the stop if the step stops, otherwise `Next`.
+    /// Returns the stop if the machine stops, otherwise `Next`.
     ///
-    /// The program's requests and bytes go to `input` and `output` at once, and nothing is asked for ahead. After a stop other than `Halt`
-    /// and `Wait` each further step returns that stop and changes nothing. After `Halt` and `Wait` a further step continues with the next
-    /// instruction.
+    /// A byte is read from `input` only when the program asks for it, never ahead of time, and a byte that the program sends goes to
+    /// `output` at once. After a stop other than `Halt` and `Wait` each further step returns that stop and changes nothing. After `Halt`
+    /// and `Wait` a further step continues with the next instruction.
     #[inline(always)]
     pub fn step<I: Feed, O: Sink>(&mut self, input: &mut I, output: &mut O) -> Turn
         ensures { Does (step self.old)

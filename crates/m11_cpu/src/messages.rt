@@ -11,11 +11,11 @@ use itoa::Buffer;
 use m11_base::{Sink, octal6, put_all};
 use m11_cpu_machine::Stop;
 
-// The two lines of a report, with their line feeds. The first has at most 36 characters; the contracts prove only that it has at
-// most 66, since `itoa` has room for a number of 40 digits. The line of registers has 91.
+// The two lines of a report, with their line feeds. The first line has at most 36 characters; the contracts prove only that it has at
+// most 66, since `itoa` has room for a number of 40 digits. The second line, that of the registers, has 91 characters.
 type Messages = ArrayVec<u8, 160>;
 
-// Adds bytes. The text must have room for them: it holds at most 160.
+// Adds bytes to the text, which holds at most 160 bytes and must have room for them.
 fn add(text: &mut Messages, bytes: &[u8])
     requires { array_vec_len text.old + length bytes.now ≤ 160 }
     ensures items { text.new.items ≡ text.old.items ++ bytes.now }
@@ -34,7 +34,7 @@ fn add_word(text: &mut Messages, label: &[u8], word: u16)
     add(text, &octal6(word));
 }
 
-// The first line: how the run ended, such as `HALT`, and the number of steps, in decimal.
+// The first line: how the run ended, such as `HALT`, and the number of steps begun, in decimal.
 #[tactic(auto, unfolding(crate::specs::Messages::end_line))]
 fn end_line(name: &[u8], steps: u32) -> Messages
     requires { length name.now ≤ 12 }
@@ -89,7 +89,7 @@ pub fn put_end<M: Sink>(
     }
 }
 
-/// Writes the two lines of a stop. `Write`: the sink failed after accepting a prefix of them.
+/// Writes the two lines that report a stop. `Write`: the sink failed after accepting a prefix of them.
 pub(crate) fn put_messages<M: Sink>(
     messages: &mut M,
     stop: Stop,

@@ -18,7 +18,8 @@ pub struct Ran {
 }
 
 impl Machine {
-    /// Makes steps until one stops, and returns its stop; or `Limit` after `limit` steps without a stop. No memory is allocated.
+    /// Makes steps until one stops the machine, and returns the stop; or `Limit` after `limit` steps without a stop. No memory is
+    /// allocated.
     ///
     /// The exchanges with `input` and `output` are those of the steps, one after another, and the machine is left as the last step leaves
     /// it.

@@ -1,4 +1,4 @@
-//! A whole run: a tape is loaded and started, and its stop is reported.
+//! A whole run: a tape is loaded, its program is run, and the stop of the run is reported.
 
 ghost use Rattle.std.specs.Prelude.{◌≤◌};
 ghost use Rattle.m11_cpu_machine.specs.Dialogue.{Does, both, input_of, output_of};
@@ -66,7 +66,7 @@ pub fn sim_run<T: Feed, I: Feed, O: Sink, M: Sink>(
     Ok(SimDone { stop: ran.stop })
 }
 
-// Runs from an even address. An odd one starts nothing: the stop is `NoStart`, after 0 steps.
+// Makes at most `limit` steps from an even address. An odd address starts nothing: the stop is `NoStart`, after 0 steps.
 #[tactic(auto, using(m11_cpu_machine::proofs::Dialogues::dialogues), unfolding(crate::specs::Simulation::started))]
 fn started<F: Feed, S: Sink>(
     machine: &mut Machine,

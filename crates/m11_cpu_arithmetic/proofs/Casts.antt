@@ -1,11 +1,11 @@
--- What casts and shifts of exact numbers leave of them.
+-- Exact numbers after casts and shifts.
 use Rattle.std.proofs.Common.{◌≡◌, ◌∙◌, ap, ℕ, ◌-◌, ◌*◌, ◌%◌, ◌^◌, ◌<◌, ◌≤◌, ℤ, pos, negsuc, ◌*ℤ◌, to_z, of_z, w32, w64, arith}
 use Rattle.std.specs.Prelude.{FitsSigned, unsigned_abs}
 use Rattle.std.proofs.lemmas.Int.{to_z-of_z, to_z_pos, wrapping_mul-bits, int_wrap_fits, fits_signed_mul}
 use Rattle.std.proofs.lemmas.Nat.{pow_below}
 use Rattle.std.specs.Int.{int_wrap}
 
--- a number of 32 bits in 64
+-- a number that fits 32 bits fits 64 bits
 pub widened : (number : ℤ) → FitsSigned w32 number → FitsSigned w64 number
 widened number fits = record { sfits = omega (arith, fits.sfits) }
 
@@ -17,7 +17,7 @@ size_at_most : (number : ℤ) → FitsSigned w32 number → unsigned_abs number 
 size_at_most (pos n) fits = omega (arith, fits.sfits)
 size_at_most (negsuc n) fits = omega (arith, fits.sfits)
 
--- a shift to the left that loses nothing
+-- if a number fits 32 bits, shifting it to the left in 64 bits by fewer than 32 places gives the exact product
 pub left_exact : (number : ℤ) (count : ℕ) → FitsSigned w32 number → count < 32
     → to_z w64 (of_z w64 number * 2 ^ count % 2 ^ 64) ≡ number *ℤ pos (2 ^ count)
 left_exact number count fits below =

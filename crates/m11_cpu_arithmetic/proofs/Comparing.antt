@@ -15,7 +15,7 @@ use Rattle.m11_cpu_arithmetic.specs.Doubles.{double_result}
 use Rattle.m11_cpu_arithmetic.specs.Branches.{is_taken}
 use Rattle.m11_cpu_arithmetic.specs.Laws.{AreCompared, CompareThenBranch}
 
--- N and V differ exactly if the difference with signs is negative
+-- N and V differ after CMP if and only if the first word is less than the second, as signed numbers
 word_less : (first second : ℕ) → first < 2 ^ 16 → second < 2 ^ 16
     → differ (int_lt (signed Word (modulo 0o200000 (pos first -ℤ pos second))) (pos 0))
     (overflows Word (signed Word first -ℤ signed Word second))
@@ -35,7 +35,7 @@ is_less : (size : Size) (first second : ℕ) → first < size_limit size → sec
 is_less Word = word_less
 is_less Byte = byte_less
 
--- Z says that the two are the same, and C that the first is lower
+-- after CMP, Z is set if and only if the two values are equal, and C if and only if the first is lower as an unsigned number
 is_same : (size : Size) (first second : ℕ) → first < size_limit size → second < size_limit size
     → (modulo (size_limit size) (pos first -ℤ pos second) == 0) ≡ (first == second)
 is_same Word first second first_below second_below = grind (arith, ints, nat_tests)
@@ -45,7 +45,7 @@ is_lower : (size : Size) (first second : ℕ) → first < size_limit size → se
     → is_outside size (pos first -ℤ pos second) ≡ nat_lt first second
 is_lower size first second first_below second_below = grind (arith, ints, nat_tests)
 
--- values with the same sign and size are the same
+-- values of one size are equal if they are equal as signed numbers
 same_signed : (size : Size) (first second : ℕ) → first < size_limit size → second < size_limit size
     → signed size first ≡ signed size second → first ≡ second
 same_signed Word first second first_below second_below same =
@@ -53,7 +53,7 @@ same_signed Word first second first_below second_below same =
 same_signed Byte first second first_below second_below same =
     sym (of_z-to_z w8 first first_below) ∙ ap (of_z w8) same ∙ of_z-to_z w8 second second_below
 
--- what the tests of two numbers with signs report
+-- which relation between two signed numbers each combination of `less` and `same` reports
 module _ (first second : ℤ) (less same : Bool) (less_is : less ≡ int_lt first second)
     (same_is : (same ≡ true) ↔ (first ≡ second)) where
   reports_less : IsTrue less ↔ (first <ℤ second)

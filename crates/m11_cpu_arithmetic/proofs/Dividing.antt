@@ -25,7 +25,7 @@ sign_below : (n : ℕ) → (neg_ℤ (pos n) ≡ pos 0) ⊎ (int_lt (neg_ℤ (pos
 sign_below zero = inl refl
 sign_below (suc n) = inr refl
 
--- the sign of a remainder
+-- a remainder is 0 or has the sign of the dividend
 sign_of_remainder : (dividend divisor : ℤ)
     → (int_rem dividend divisor ≡ pos 0) ⊎ (int_lt (int_rem dividend divisor) (pos 0) ≡ int_lt dividend (pos 0))
 sign_of_remainder (pos a) divisor =
@@ -60,7 +60,7 @@ done_divides dividend divisor divisor_fits nonzero held_in =
       },
     )
 
--- ---- there is one quotient
+-- ---- there is only one quotient
 
 div_is : (n k e m : ℕ) → m < e → n ≡ k * e + m → n / e ≡ k
 div_is n k e m below n_is = ap (λ x. x / e) n_is ∙ div-mul-add k e m below

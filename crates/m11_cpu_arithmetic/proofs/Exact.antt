@@ -1,4 +1,4 @@
--- The code computes exact numbers in 32 bits, or in 64; these hold them.
+-- The code computes exact numbers in 32 or 64 bits, which are enough for them.
 use Rattle.std.proofs.Common.{◌≡◌, refl, sym, ◌∙◌, ap, ℕ, ◌^◌, ◌<◌, ◌≤◌, ℤ, pos, negsuc, ◌+ℤ◌, ◌-ℤ◌, ◌*ℤ◌, ◌≤ℤ◌, neg_ℤ, to_z, of_z, w16, w32, w64, arith, rules, Bool, true, false}
 use Rattle.std.specs.Prelude.{FitsSigned, unsigned_abs, int_div, int_rem, int_lt, cond, not, ltb, ◌||◌, ◌==◌}
 use Rattle.std.proofs.lemmas.Bool.{ltb-false}
@@ -16,7 +16,7 @@ use Rattle.m11_cpu_arithmetic.specs.Doubles.{sum, difference}
 use Rattle.m11_cpu_arithmetic.specs.Singles.{negated}
 use Rattle.m11_cpu_arithmetic.specs.Extended.{product_of, divided, refused_quotient, done}
 
--- what 32 bits leave of a number
+-- the number that 32 bits hold after a number was stored there; the same number if it fits
 abbrev pub held : ℤ → ℤ
 held number = to_z w32 (of_z w32 number)
 
@@ -24,12 +24,12 @@ pub limit_at_most : (size : Size) → size_limit size ≤ 2 ^ 16
 limit_at_most Word = omega arith
 limit_at_most Byte = omega arith
 
--- the number of a value lies in the range of words
+-- a value as a signed number fits a signed word
 pub signed_fits : (size : Size) (value : ℕ) → value < size_limit size → FitsSigned w16 (signed size value)
 signed_fits Word value below = search rules
 signed_fits Byte value below = search rules
 
--- a number whose sums and differences 32 bits hold
+-- the number is at least -65,536 and at most 65,536, so that 32 bits hold the sum and the difference of two such numbers
 pub record Small (number : ℤ) : Type 0 where
   pub from : negsuc 65535 ≤ℤ number
   pub to : number ≤ℤ pos 65536
@@ -76,7 +76,7 @@ module _ (size : Size) (first second : ℕ) (a b c d : ℤ) (r : Computed)
       ∙ ap (λ z. exact_result size (pos first -ℤ pos second) z)
       (signed_held ∙ ap (λ z. z -ℤ d) c_is ∙ ap (λ z. signed size first -ℤ z) d_is)
 
--- what is below 0 by as much as a small number is above
+-- 32 bits hold the negative of a small number
 negated_held : (a : ℤ) → Small a → held (pos 0 -ℤ held a) ≡ neg_ℤ a
 negated_held a small_a = omega (arith, ints)
 
@@ -103,7 +103,7 @@ size_at_most (negsuc n) fits = omega (arith, fits.sfits)
 word_size : (value : ℕ) → value < 2 ^ 16 → unsigned_abs (signed Word value) ≤ 2 ^ 15
 word_size value below = size_at_most (signed Word value) (signed_fits Word value below)
 
--- the 32 bits of a number that they hold
+-- if a number fits 32 bits, its bits there are the number modulo 2 to the power of 32
 pub bits_held : (number : ℤ) → FitsSigned w32 number → of_z w32 number ≡ modulo 0o40000000000 number
 bits_held (pos n) fits = omega (arith, fits.sfits)
 bits_held (negsuc n) fits = omega (arith, fits.sfits)
@@ -149,7 +149,7 @@ divided_done dividend divisor quotient remainder r no_overflow quotient_is remai
     (done (int_div dividend divisor) (int_rem dividend divisor)))
     (ap (overflows Word) (sym quotient_is) ∙ no_overflow))
 
--- a number that both tests let through
+-- if neither test of the code finds that a quotient is outside the range of a signed word, it doesn't overflow a word
 pub no_overflow : (quotient : ℤ) → FitsSigned w64 quotient
     → int_lt (to_z w64 (of_z w64 quotient)) (negsuc 32767) ≡ false
     → int_lt (pos 32767) (to_z w64 (of_z w64 quotient)) ≡ false → overflows Word quotient ≡ false
@@ -162,12 +162,12 @@ or_false : (a b : Bool) → (a || b) ≡ false → a ≡ false
 or_false true b e = e
 or_false false b e = refl
 
--- a word holds what doesn't overflow
+-- a number that doesn't overflow a word fits a signed word
 pub held_in_word : (number : ℤ) → overflows Word number ≡ false → FitsSigned w16 number
 held_in_word (pos n) e = record { sfits = omega (arith, ltb-false 32767 n e) }
 held_in_word (negsuc n) e = record { sfits = omega (arith, ltb-false 32767 n (or_false (ltb 32767 n) false e)) }
 
--- a number that a word holds, written to one
+-- if a number fits a signed word, the word that stores it gives it back as a signed number
 pub word_again : (number : ℤ) → FitsSigned w16 number → signed Word (modulo 0o200000 number) ≡ number
 word_again (pos n) fits = omega (arith, ints)
 word_again (negsuc n) fits = grind (arith, ints, nat_tests)

@@ -1,4 +1,4 @@
--- Shifts of 32 bits as steps, and the exact numbers that they stand for: as those of words, with other limits.
+-- Shifts of 32 bits as steps, and the exact numbers that they stand for. The lemmas are those of words in Shifting.antt, with other limits.
 use Rattle.std.proofs.Common.{◌≡◌, refl, sym, subst, ◌∙◌, ap, ℕ, zero, suc, ◌+◌, ◌*◌, ◌/◌, ◌%◌, ◌^◌, ◌<◌, ◌≤◌, ◌≢◌, inl, inr, ℤ, pos, negsuc, ◌+ℤ◌, ◌*ℤ◌, ◌≤ℤ◌, ◌<ℤ◌, neg_ℤ, w32, arith, rules, Bool, true, false}
 use Rattle.std.specs.Prelude.{nat_le, FitsSigned, int_lt, ◌==◌, ltb, ◌||◌}
 use Rattle.std.specs.Int.{cast_signed, int_div_euclid}
@@ -16,7 +16,7 @@ use Rattle.m11_cpu_arithmetic.specs.Results.{pair_of}
 use Rattle.m11_cpu_arithmetic.specs.Laws.{double_word, IsPairShiftedLeft, IsPairShiftedRight, pair_left_last, pair_steps_left, PairSignChanges}
 use Rattle.m11_cpu_arithmetic.proofs.Shifting.{by_one, doubled, quotient_above, quotient_below, sign_of_times, steps_right_are, times, times_more, times_none}
 
--- both words of a number
+-- the two words of a number, joined, are the number
 whole : (number : ℕ) → double_word (number / 0o200000) (number % 0o200000) ≡ number
 whole number = omega arith
 
@@ -47,7 +47,7 @@ modulo_more (negsuc a) = omega arith
 modulo_word : (value : ℕ) → value < pair_limit → value ≡ modulo pair_limit (cast_signed w32 value)
 modulo_word value below = grind (arith, ints, nat_tests)
 
--- the steps keep what is left of the exact number
+-- n steps to the left give the exact number modulo 2 to the power of 32
 steps_are : (value n : ℕ) → value < pair_limit → pair_steps_left n value ≡ modulo pair_limit (times (cast_signed w32 value) n)
 steps_are value zero below = modulo_word value below ∙ sym (ap (modulo pair_limit) (times_none (cast_signed w32 value)))
 steps_are value (suc n) below =
@@ -60,14 +60,14 @@ steps_times value (suc n) below =
     let e : value * 2 ^ suc n ≡ value * 2 ^ n + value * 2 ^ n = doubled value n in
     ap (λ m. (m + m) % pair_limit) (steps_times value n below) ∙ omega arith
 
--- so long as a word holds the exact number
+-- if the exact number fits 32 bits, n steps to the left give it as a signed number
 steps_hold : (value n : ℕ) → value < pair_limit → overflows_pair (times (cast_signed w32 value) n) ≡ false
     → cast_signed w32 (pair_steps_left n value) ≡ times (cast_signed w32 value) n
 steps_hold value n below held_in =
     ap (cast_signed w32) (steps_are value n below)
     ∙ pair_again (times (cast_signed w32 value) n) (held_in_pair (times (cast_signed w32 value) n) held_in)
 
--- if a word holds the double of a number, it holds the number
+-- if the double of a number fits 32 bits, the number does
 held_half : (number : ℤ) → overflows_pair (number +ℤ number) ≡ false → overflows_pair number ≡ false
 held_half number held_in = grind (arith, ints, nat_tests)
 
@@ -84,7 +84,7 @@ held_before number (suc n) k below held_in =
           let P : ℕ → Type 0 = λ m. overflows_pair (times number m) ≡ false in subst P e held_in)
     ]
 
--- if a word holds the number but not its double, the double's sign in the word differs from the number's
+-- if a number fits 32 bits but its double doesn't, the double's sign in 32 bits differs from the number's
 turned : (number : ℤ) → FitsSigned w32 number → overflows_pair (number +ℤ number) ≡ true
     → int_lt (cast_signed w32 (modulo pair_limit (number +ℤ number))) (pos 0) ≢ int_lt number (pos 0)
 turned number fits over same = grind (arith, ints, nat_tests)
@@ -119,14 +119,14 @@ no_changes value n k below k_below held_in =
     ap (λ z. int_lt z (pos 0)) (steps_hold value k below (held_before (cast_signed w32 value) n k k_below held_in))
     ∙ sign_of_times (cast_signed w32 value) k
 
--- what ASHC computes by a count of places
+-- the result of ASHC for this number of places
 abbrev pub result_by : ℕ → ℤ → Pair
 result_by value count =
     pair_of (modulo (pair_limit) (shifted (cast_signed w32 value) count))
     (overflows_pair (shifted (cast_signed w32 value) count))
     (last_bit 32 (cast_signed w32 value) count)
 
--- the digit above the word of a double is the highest digit in the word
+-- digit 32 of the double of a number is the highest of the lowest 32 digits of the number
 digit_of_double : (number : ℤ) → digit (number +ℤ number) 32 ≡ nat_le 0o20000000000 (modulo pair_limit number)
 digit_of_double (pos a) = grind (arith, nat_tests)
 digit_of_double (negsuc a) = grind (arith, nat_tests)
@@ -165,7 +165,7 @@ quotient_fits : (number : ℤ) (divisor : ℕ) → FitsSigned w32 number
 quotient_fits (pos a) divisor fits = record { sfits = omega (arith, div-le_self a divisor, fits.sfits) }
 quotient_fits (negsuc a) divisor fits = record { sfits = omega (arith, div-le_self a divisor, fits.sfits) }
 
--- the number of the two words that are left of an exact number
+-- the signed number in the two words that hold the lowest 32 bits of an exact number
 abbrev kept : ℤ → ℤ
 kept number = joined (modulo pair_limit number / 0o200000) (modulo pair_limit number % 0o200000)
 

@@ -30,7 +30,7 @@ doubled a n = grind (arith, pow-suc)
 doubled_below : (n : ℕ) → neg_ℤ (pos (n + n)) ≡ neg_ℤ (pos n) +ℤ neg_ℤ (pos n)
 doubled_below n = omega (arith, ints)
 
--- one time more is the number and the number
+-- a number doubled n + 1 times is twice the number doubled n times
 pub times_more : (number : ℤ) (n : ℕ) → times number (suc n) ≡ times number n +ℤ times number n
 times_more (pos a) n = ap pos (doubled a n)
 times_more (negsuc a) n = ap (λ m. neg_ℤ (pos m)) (doubled (suc a) n) ∙ doubled_below (suc a * 2 ^ n)
@@ -43,7 +43,7 @@ modulo_more (negsuc a) = omega arith
 modulo_word : (value : ℕ) → value < 0o200000 → value ≡ modulo 0o200000 (signed Word value)
 modulo_word value below = grind (arith, ints, nat_tests)
 
--- the steps keep what is left of the exact number
+-- n steps to the left give the exact number modulo octal 200000
 steps_are : (value n : ℕ) → value < 0o200000 → steps_left n value ≡ modulo 0o200000 (times (signed Word value) n)
 steps_are value zero below = modulo_word value below ∙ sym (ap (modulo 0o200000) (times_none (signed Word value)))
 steps_are value (suc n) below =
@@ -56,7 +56,7 @@ steps_times value (suc n) below =
     let e : value * 2 ^ suc n ≡ value * 2 ^ n + value * 2 ^ n = doubled value n in
     ap (λ m. (m + m) % 0o200000) (steps_times value n below) ∙ omega arith
 
--- so long as a word holds the exact number
+-- if the exact number fits a signed word, n steps to the left give it as a signed number
 steps_hold : (value n : ℕ) → value < 0o200000 → overflows Word (times (signed Word value) n) ≡ false
     → signed Word (steps_left n value) ≡ times (signed Word value) n
 steps_hold value n below held_in =
@@ -73,7 +73,7 @@ sign_of_times number zero = ap (λ z. int_lt z (pos 0)) (times_none number)
 sign_of_times number (suc n) =
     ap (λ z. int_lt z (pos 0)) (times_more number n) ∙ sign_of_double (times number n) ∙ sign_of_times number n
 
--- if a word holds the double of a number, it holds the number
+-- if the double of a number fits a signed word, the number does
 held_half : (number : ℤ) → overflows Word (number +ℤ number) ≡ false → overflows Word number ≡ false
 held_half number held_in = grind (arith, ints, nat_tests)
 
@@ -90,7 +90,7 @@ held_before number (suc n) k below held_in =
           let P : ℕ → Type 0 = λ m. overflows Word (times number m) ≡ false in subst P e held_in)
     ]
 
--- if a word holds the number but not its double, the double's sign in the word differs from the number's
+-- if a number fits a signed word but its double doesn't, the double's sign in the word differs from the number's
 turned : (number : ℤ) → FitsSigned w16 number → overflows Word (number +ℤ number) ≡ true
     → int_lt (signed Word (modulo 0o200000 (number +ℤ number))) (pos 0) ≢ int_lt number (pos 0)
 turned number fits over same = grind (arith, ints, nat_tests)
@@ -125,14 +125,14 @@ no_changes value n k below k_below held_in =
     ap (λ z. int_lt z (pos 0)) (steps_hold value k below (held_before (signed Word value) n k k_below held_in))
     ∙ sign_of_times (signed Word value) k
 
--- what ASH computes by a count of places
+-- the result of ASH for this number of places
 abbrev pub result_by : ℕ → ℤ → Computed
 result_by value count =
     with_codes Word (modulo (size_limit Word) (shifted (signed Word value) count))
     (overflows Word (shifted (signed Word value) count))
     (last_bit 16 (signed Word value) count)
 
--- the digit above the word of a double is the highest digit in the word
+-- digit 16 of the double of a number is the highest of the lowest 16 digits of the number
 digit_of_double : (number : ℤ) → digit (number +ℤ number) 16 ≡ nat_le 0o100000 (modulo 0o200000 number)
 digit_of_double (pos a) = grind (arith, nat_tests)
 digit_of_double (negsuc a) = grind (arith, nat_tests)
@@ -165,7 +165,7 @@ left value count n below places_is =
     let P : ℤ → Type 0 = λ p. IsShiftedLeft value n (result_by value p) in
     subst P (sym places_is) (left_by value n below)
 
--- a quotient rounded down
+-- a quotient rounded down, times the divisor, is at most the number
 pub quotient_below : (number : ℤ) (divisor : ℕ) → 0 < divisor
     → (int_div_euclid number (pos divisor) *ℤ pos divisor) ≤ℤ number
 quotient_below (pos a) divisor positive =
@@ -236,7 +236,7 @@ pub halves : (number : ℤ) (n : ℕ)
 halves (pos a) n = ap pos (shr-shr a n 1 ∙ ap (λ k. a / 2 ^ k) (let e : n + 1 ≡ suc n = omega arith in e))
 halves (negsuc a) n = ap negsuc (shr-shr a n 1 ∙ ap (λ k. a / 2 ^ k) (let e : n + 1 ≡ suc n = omega arith in e))
 
--- the steps are a division
+-- n steps to the right are a division by 2 to the n, rounded down
 pub steps_right_are : (number : ℤ) (n : ℕ) → steps_right n number ≡ int_div_euclid number (pos (2 ^ n))
 steps_right_are number zero = by_one number
 steps_right_are number (suc n) = ap (λ z. int_div_euclid z (pos 2)) (steps_right_are number n) ∙ halves number n

@@ -29,6 +29,6 @@ double_result Bis size source destination codes = with_codes size (bit_or source
 double_result Add size source destination codes = sum size destination source
 double_result Sub size source destination codes = difference size destination source
 
--- the result of XOR, which operates on words only
+-- the result of XOR, which operates on words only; `codes` are the condition codes before the operation
 unfoldable pub exclusive_or_result : ℕ → ℕ → ConditionCodes → Computed
 exclusive_or_result register destination codes = with_codes Word (bit_xor register destination) false codes.carry

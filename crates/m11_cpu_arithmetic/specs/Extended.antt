@@ -14,7 +14,7 @@ use Rattle.m11_cpu_arithmetic.specs.Results.{pair_of}
 abbrev pub joined : ℕ → ℕ → ℤ
 joined high low = cast_signed w32 (high * 0o200000 + low)
 
--- the result of MUL, the product's 32 bits: V is clear, and C is set if the product doesn't fit a signed word
+-- the result of MUL: the product's 32 bits, with their N and Z; V is clear, and C is set if the product doesn't fit a signed word
 unfoldable pub product_of : ℕ → ℕ → Pair
 product_of register source =
     let product = signed Word register *ℤ signed Word source in
@@ -39,7 +39,7 @@ divided dividend divisor =
     let quotient = int_div dividend divisor in
     if overflows Word quotient then refused_quotient quotient else done quotient (int_rem dividend divisor)
 
--- DIV of the 32 bits of two words by a word: refused if the divisor is 0 or the quotient doesn't fit a signed word
+-- the result of DIV on the 32 bits of two words and a divisor: refused if the divisor is 0 or the quotient doesn't fit a signed word
 unfoldable pub division_of : ℕ → ℕ → ℕ → Division
 division_of high low divisor =
     if divisor == 0 then refused_by_zero else divided (joined high low) (signed Word divisor)

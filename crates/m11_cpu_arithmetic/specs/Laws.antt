@@ -21,8 +21,8 @@ use Rattle.m11_cpu_arithmetic.specs.Branches.{is_taken}
 
 -- ---- comparisons
 
--- after a comparison, each of these branches is taken if and only if the relation in its name holds; BLO is another name for BCS, and
--- BHIS for BCC
+-- after a comparison, each of these branches is taken if and only if the relation in its name holds between the first value and the
+-- second; BLO is another name for BCS, and BHIS for BCC
 pub record AreCompared (size : Size) (first second : ℕ) (codes : ConditionCodes) : Type 0 where
   pub equal : IsTrue (is_taken Beq codes) ↔ (first ≡ second)
   pub not_equal : IsTrue (is_taken Bne codes) ↔ (first ≢ second)
@@ -42,16 +42,17 @@ CompareThenBranch size = (first second : ℕ) (codes : ConditionCodes) → first
 
 -- ---- double precision
 
--- the number in the 32 bits of two words
+-- the unsigned number in the 32 bits of two words
 abbrev pub double_word : ℕ → ℕ → ℕ
 double_word high low = high * 0o200000 + low
 
--- the 32 bits of the sum, and its carry, which is C after ADC or C after the last ADD
+-- the two words together are the sum modulo 2 to the power of 32, and the sum has a carry if and only if C is set after ADC or after the
+-- last ADD
 pub record AreAdded (source destination : ℕ) (low middle high : Computed) : Type 0 where
   pub value : double_word high.value low.value ≡ (source + destination) % pair_limit
   pub carry : (middle.codes.carry || high.codes.carry) ≡ nat_le pair_limit (source + destination)
 
--- ADD of the low words, ADC to the high word of the destination, ADD of the high words
+-- ADD of the low words, ADC to the high word of the destination and ADD of the high words together add the two numbers of 32 bits
 abbrev pub Adds : ℕ → ℕ → ℕ → ℕ → ConditionCodes → Type 0
 Adds source_high source_low high low codes =
     let low_sum = double_result Add Word source_low low codes in
@@ -59,12 +60,13 @@ Adds source_high source_low high low codes =
     let high_sum = double_result Add Word source_high carried.value carried.codes in
     AreAdded (double_word source_high source_low) (double_word high low) low_sum carried high_sum
 
--- the 32 bits of the difference, and its borrow, which is C after SBC or C after the last SUB
+-- the two words together are the difference modulo 2 to the power of 32, and there is a borrow if and only if C is set after SBC or after
+-- the last SUB
 pub record AreSubtracted (source destination : ℕ) (low middle high : Computed) : Type 0 where
   pub value : double_word high.value low.value ≡ modulo pair_limit (pos destination -ℤ pos source)
   pub carry : (middle.codes.carry || high.codes.carry) ≡ nat_lt destination source
 
--- SUB of the low words, SBC from the high word of the destination, SUB of the high words
+-- SUB of the low words, SBC from the high word of the destination and SUB of the high words together subtract the two numbers of 32 bits
 abbrev pub Subtracts : ℕ → ℕ → ℕ → ℕ → ConditionCodes → Type 0
 Subtracts source_high source_low high low codes =
     let low_difference = double_result Sub Word source_low low codes in
@@ -80,7 +82,8 @@ IsProduct register source =
     joined (product_of register source).high (product_of register source).low
     ≡ signed Word register *ℤ signed Word source
 
--- a quotient rounded towards 0, and its remainder, which is smaller in magnitude than the divisor, and is 0 or has the dividend's sign
+-- these are the quotient, rounded towards 0, and its remainder, which is smaller in magnitude than the divisor, and is 0 or has the
+-- dividend's sign
 pub record IsQuotient (dividend divisor quotient remainder : ℤ) : Type 0 where
   pub whole : dividend ≡ (quotient *ℤ divisor) +ℤ remainder
   pub smaller : unsigned_abs remainder < unsigned_abs divisor
@@ -111,12 +114,13 @@ abbrev pub SignChanges : ℕ → ℕ → Type 0
 SignChanges value n = (k : ℕ) × (k ≤ n)
     × (int_lt (signed Word (steps_left k value)) (pos 0) ≢ int_lt (signed Word value) (pos 0))
 
--- the bit shifted out at the last of n steps to the left; clear without a step
+-- the bit shifted out at the last of n steps to the left; clear if n is 0
 abbrev pub left_last : ℕ → ℕ → Bool
 left_last zero value = false
 left_last (suc n) value = nat_le 0o100000 (steps_left n value)
 
--- the result of a shift of a word by n places to the left: the value times 2 to the n, modulo octal 200000, with its V and C
+-- this is the result of a shift of a word by n places to the left: the value times 2 to the n, modulo octal 200000; V is set if and only if
+-- the sign changes at one of the steps; and C is the last bit shifted out, which is clear if n is 0
 pub record IsShiftedLeft (value n : ℕ) (result : Computed) : Type 0 where
   pub value_times : result.value ≡ value * 2 ^ n % 0o200000
   pub by_steps : result.value ≡ steps_left n value
@@ -128,13 +132,13 @@ abbrev pub steps_right : ℕ → ℤ → ℤ
 steps_right zero number = number
 steps_right (suc n) number = int_div_euclid (steps_right n number) (pos 2)
 
--- the bit shifted out at the last of n steps to the right; clear without a step
+-- the bit shifted out at the last of n steps to the right; clear if n is 0
 abbrev pub right_last : ℕ → ℤ → Bool
 right_last zero number = false
 right_last (suc n) number = modulo 2 (steps_right n number) == 1
 
--- the result of a shift of a word by n places to the right: the number divided by 2 to the n, rounded down, with V clear, and with the last
--- bit shifted out as C, which is clear if n is 0
+-- this is the result of a shift of a word by n places to the right: the value, as a signed number, divided by 2 to the n and rounded down;
+-- V is clear; and C is the last bit shifted out, which is clear if n is 0
 pub record IsShiftedRight (value n : ℕ) (result : Computed) : Type 0 where
   pub from : (signed Word result.value *ℤ pos (2 ^ n)) ≤ℤ signed Word value
   pub to : signed Word value <ℤ ((signed Word result.value +ℤ pos 1) *ℤ pos (2 ^ n))
@@ -154,20 +158,21 @@ abbrev pub PairSignChanges : ℕ → ℕ → Type 0
 PairSignChanges value n = (k : ℕ) × (k ≤ n)
     × (int_lt (cast_signed w32 (pair_steps_left k value)) (pos 0) ≢ int_lt (cast_signed w32 value) (pos 0))
 
--- the bit shifted out at the last of n steps to the left; clear without a step
+-- the bit shifted out at the last of n steps to the left; clear if n is 0
 abbrev pub pair_left_last : ℕ → ℕ → Bool
 pair_left_last zero value = false
 pair_left_last (suc n) value = nat_le 0o20000000000 (pair_steps_left n value)
 
--- the result of a shift of 32 bits by n places to the left: the value times 2 to the n, modulo 2 to the power of 32, with its V and
--- C
+-- this is the result of a shift of 32 bits by n places to the left: the value times 2 to the n, modulo 2 to the power of 32; V is set if
+-- and only if the sign changes at one of the steps; and C is the last bit shifted out, which is clear if n is 0
 pub record IsPairShiftedLeft (value n : ℕ) (result : Pair) : Type 0 where
   pub value_times : double_word result.high result.low ≡ value * 2 ^ n % pair_limit
   pub by_steps : double_word result.high result.low ≡ pair_steps_left n value
   pub sign_changes : IsTrue result.codes.overflow ↔ PairSignChanges value n
   pub carry : result.codes.carry ≡ pair_left_last n value
 
--- the result of a shift of 32 bits by n places to the right: the number divided by 2 to the n, rounded down, with V clear, and its C
+-- this is the result of a shift of 32 bits by n places to the right: the value, as a signed number, divided by 2 to the n and rounded down;
+-- V is clear; and C is the last bit shifted out, which is clear if n is 0
 pub record IsPairShiftedRight (value n : ℕ) (result : Pair) : Type 0 where
   pub from : (joined result.high result.low *ℤ pos (2 ^ n)) ≤ℤ cast_signed w32 value
   pub to : cast_signed w32 value <ℤ ((joined result.high result.low +ℤ pos 1) *ℤ pos (2 ^ n))

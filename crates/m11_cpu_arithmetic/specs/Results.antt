@@ -8,7 +8,7 @@ use Rattle.m11_cpu_arithmetic.specs.declared.results.Pair.{Pair}
 use Rattle.m11_base.specs.Words.{modulo}
 use Rattle.m11_cpu_arithmetic.specs.Sizes.{size_limit, signed, overflows, is_outside}
 
--- whether exactly one of the two is set
+-- whether exactly one of two flags is set
 abbrev pub differ : Bool → Bool → Bool
 differ first second = not (beq first second)
 

@@ -18,11 +18,11 @@ abbrev pub shifted : ℤ → ℤ → ℤ
 shifted number (pos n) = number *ℤ pos (2 ^ n)
 shifted number (negsuc n) = int_div_euclid number (pos (2 ^ suc n))
 
--- the binary digit that is worth 2 to the `power` in a number
+-- whether bit `power` of a number in two's complement is set; bit 0 is the lowest
 abbrev pub digit : ℤ → ℕ → Bool
 digit number power = modulo 2 (int_div_euclid number (pos (2 ^ power))) == 1
 
--- the last bit shifted out of a number of `width` bits; clear if the number isn't shifted
+-- the last bit that `shifted` shifts out of a number of `width` bits; clear if the number of places is 0
 abbrev pub last_bit : ℕ → ℤ → ℤ → Bool
 last_bit width number (pos zero) = false
 last_bit width number (pos (suc n)) = digit (number *ℤ pos (2 ^ suc n)) width

@@ -17,8 +17,8 @@ use Rattle.m11_cpu_arithmetic.specs.Doubles.{sum, difference}
 abbrev pub unchanged : ℕ → ConditionCodes → Computed
 unchanged value codes = record { value = value; codes = codes }
 
--- a word with its two bytes swapped; N and Z are those of the byte that is now the lower one; a byte and its codes stay as they
--- were
+-- a word with its two bytes swapped, with the N and Z of the byte that is now the lower one, and V and C clear; a byte and its codes stay
+-- as they were
 abbrev pub swapped : Size → ℕ → ConditionCodes → Computed
 swapped Word value codes = record {
   value = value % 0o400 * 0o400 + value / 0o400;
@@ -26,7 +26,7 @@ swapped Word value codes = record {
 }
 swapped Byte value codes = unchanged value codes
 
--- a result that leaves C as it was
+-- the result, but with C as it is in `codes`
 abbrev pub keeping_carry : ConditionCodes → Computed → Computed
 keeping_carry codes computed = record {
   value = computed.value;
@@ -38,7 +38,7 @@ keeping_carry codes computed = record {
   };
 }
 
--- the negative of a value: V if it doesn't fit the size, C unless the result is 0
+-- the negative of a value: V if the exact signed negative doesn't fit the size, C unless the result is 0
 abbrev pub negated : Size → ℕ → Computed
 negated size value =
     let opposite = modulo (size_limit size) (neg_ℤ (pos value)) in
@@ -50,11 +50,11 @@ less_carry size value carry =
     let left = modulo (size_limit size) (pos value -ℤ pos (from_bool carry)) in
     with_codes size left (value == sign_bit size && carry) (value == 0 && carry)
 
--- a value after a shift by one place: C is the bit shifted out, and V says whether N and C differ
+-- a value after a shift by one place: C is `bit`, the bit shifted out, and V is set if N and C differ
 abbrev pub stepped : Size → ℕ → Bool → Computed
 stepped size value bit = with_codes size value (differ (int_lt (signed size value) (pos 0)) bit) bit
 
--- SXT: each bit of the value is N; Z if N is clear, V clear, N and C as they were
+-- SXT: each bit of the value is N; Z is set if N is clear, V is clear, and N and C stay as they were
 abbrev pub sign_filled : Size → ConditionCodes → Computed
 sign_filled size codes = record {
   value = if codes.negative then size_limit size - 1 else 0;
@@ -66,12 +66,12 @@ sign_filled size codes = record {
   };
 }
 
--- ROR: one place to the right, with the carry as the highest bit
+-- ROR: the value shifted one place to the right, with the carry as the highest bit
 abbrev pub rotated_right : Size → ℕ → Bool → Computed
 rotated_right size value carry =
     stepped size (value / 2 + from_bool carry * sign_bit size) (value % 2 == 1)
 
--- ROL, and ASL if the carry is clear: one place to the left, with the carry as the lowest bit
+-- ROL, or ASL if `carry` is false: the value shifted one place to the left, with the carry as the lowest bit
 abbrev pub rotated_left : Size → ℕ → Bool → Computed
 rotated_left size value carry =
     stepped size ((2 * value + from_bool carry) % size_limit size) (nat_le (sign_bit size) value)
@@ -81,8 +81,8 @@ abbrev pub halved : Size → ℕ → Computed
 halved size value =
     stepped size (modulo (size_limit size) (int_div_euclid (signed size value) (pos 2))) (value % 2 == 1)
 
--- the result of an operation on its operand; `codes` are the condition codes before the operation; JMP computes nothing; the result
--- of TST is stored nowhere
+-- the result of an operation on its operand; `codes` are the condition codes before the operation; JMP, and SWAB of a byte, compute
+-- nothing; the result of TST is stored nowhere
 unfoldable pub single_result : SingleOp → Size → ℕ → ConditionCodes → Computed
 single_result Jmp size value codes = unchanged value codes
 single_result Swab size value codes = swapped size value codes

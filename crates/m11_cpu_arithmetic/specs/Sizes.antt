@@ -5,21 +5,21 @@ use Rattle.std.specs.Int.{cast_signed, w8, w16}
 use Rattle.m11_base.specs.declared.operand.Size.{Size}
 use Rattle.m11_base.specs.declared.operand.Size.TheVariants.{Word, Byte}
 
--- the limit of a size: each of its values lies below it
+-- the limit of a size: all values of the size are below this limit
 abbrev pub size_limit : Size → ℕ
 size_limit Word = 0o200000
 size_limit Byte = 0o400
 
--- the limit of numbers of 32 bits
+-- the limit of 32 bits: all unsigned numbers of 32 bits are below it
 abbrev pub pair_limit : ℕ
 pair_limit = 0o40000000000
 
--- the highest bit alone; values from it on are negative
+-- the value with only the highest bit set; it and all greater values are negative as signed numbers
 abbrev pub sign_bit : Size → ℕ
 sign_bit Word = 0o100000
 sign_bit Byte = 0o200
 
--- the signed number of a value, whose highest bit is the sign
+-- the value as a signed number; its highest bit is the sign
 abbrev pub signed : Size → ℕ → ℤ
 signed Word value = cast_signed w16 value
 signed Byte value = cast_signed w8 value

@@ -8,9 +8,9 @@ use crate::results::{Computed, exact_result, with_codes};
 use crate::sizes::{complement, signed};
 use m11_base::{ConditionCodes, DoubleOp, Size};
 
-/// The result of an operation on its source and its destination. `codes` are the condition codes before the operation. Operands of
-/// bytes are below octal 400, and so is the result. The results of CMP and BIT are stored nowhere. (PDP-11/40 Processor Handbook,
-/// "Instruction set": double operand instructions.)
+/// The result of an operation on its source and its destination. `codes` are the condition codes before the operation. Byte operands are
+/// below octal 400, and so is their result. The results of CMP and BIT are stored nowhere. (PDP-11/40 Processor Handbook, "Instruction
+/// set": double operand instructions.)
 #[tactic(auto, unfolding(crate::specs::Doubles::double_result))]
 #[inline(always)]
 pub fn double(

@@ -7,8 +7,8 @@ use crate::results::{Division, Pair, pair_of};
 use crate::sizes::{kept, overflows, signed};
 use m11_base::{ConditionCodes, Size};
 
-/// The result of MUL on its register and its source: the product's 32 bits, their N and Z, V clear, and C if the product doesn't fit
-/// a signed word. (PDP-11/40 Processor Handbook, "Extended instruction set": MUL.)
+/// The result of MUL on its register and its source: the product's 32 bits, with their N and Z. V is clear, and C is set if the product
+/// doesn't fit a signed word. (PDP-11/40 Processor Handbook, "Extended instruction set": MUL.)
 #[tactic(auto, unfolding(crate::specs::Extended::product_of))]
 pub fn multiply(register: u16, source: u16) -> Pair
     ensures { result ≡ product_of register source }

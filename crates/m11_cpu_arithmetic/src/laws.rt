@@ -17,23 +17,23 @@ pub fn branches_after_compare()
     ensures bytes { CompareThenBranch Byte }
 {}
 
-/// ADD of the low words, ADC to the high word and ADD of the high words add numbers of 32 bits: the sum modulo 2 to the power of
-/// 32, with its carry as C after ADC or C after the last ADD.
+/// ADD of the low words, ADC to the high word of the destination and ADD of the high words together add two numbers of 32 bits. The result
+/// is the sum modulo 2 to the power of 32; the sum has a carry if and only if C is set after ADC or after the last ADD.
 pub fn double_precision_addition()
     ensures { (source_high source_low high low : ℕ) (codes : ConditionCodes) → source_high < 0o200000
         → source_low < 0o200000
         → high < 0o200000 → low < 0o200000 → Adds source_high source_low high low codes }
 {}
 
-/// SUB of the low words, SBC from the high word and SUB of the high words subtract numbers of 32 bits: the difference modulo 2 to
-/// the power of 32, with its borrow as C after SBC or C after the last SUB.
+/// SUB of the low words, SBC from the high word of the destination and SUB of the high words together subtract two numbers of 32 bits. The
+/// result is the difference modulo 2 to the power of 32; there is a borrow if and only if C is set after SBC or after the last SUB.
 pub fn double_precision_subtraction()
     ensures { (source_high source_low high low : ℕ) (codes : ConditionCodes) → source_high < 0o200000
         → source_low < 0o200000
         → high < 0o200000 → low < 0o200000 → Subtracts source_high source_low high low codes }
 {}
 
-/// The two words of MUL together are the exact product of the signed numbers.
+/// The two words of the result of MUL together are the exact product of its operands, all as signed numbers.
 pub fn multiplication()
     ensures { (register source : ℕ) → register < 0o200000 → source < 0o200000 → IsProduct register source }
 {}
@@ -46,10 +46,10 @@ pub fn division()
         → IsDivided (joined high low) (signed Word divisor) (division_of high low divisor) }
 {}
 
-/// ASH by n places to the left gives the value times 2 to the n modulo 65,536, as n doubling steps do; V is set if and only if the
-/// sign after some step differs from the first sign, and C is the bit shifted out at the last step. ASH by n places to the right
-/// gives the number divided by 2 to the n, rounded down, as n halving steps do; V is clear, and C is the bit shifted out at the
-/// last step. Without a step C is clear. ASHC does the same to the 32 bits of two words.
+/// ASH by n places to the left gives the value times 2 to the n modulo 65,536, as n doubling steps do; V is set if and only if the sign
+/// after some step differs from the sign before the first, and C is the bit shifted out at the last step. ASH by n places to the right
+/// gives the value, as a signed number, divided by 2 to the n and rounded down, as n halving steps do; V is clear, and C is the bit shifted
+/// out at the last step. If n is 0, C is clear. ASHC does the same to the 32 bits of two words.
 pub fn arithmetic_shifts()
     ensures left { (value count n : ℕ) → value < 0o200000 → places count ≡ pos n
         → IsShiftedLeft value n (shift_result value count) }

@@ -10,7 +10,7 @@ use m11_base::{ConditionCodes, Size};
 /// A result and the condition codes that it sets.
 #[derive(Clone, Copy, Debug, PartialEq, Eq)]
 pub struct Computed {
-    /// A word, or a byte below octal 400.
+    /// A word, or a byte as a number below octal 400.
     pub value: u16,
     /// N, Z, V and C.
     pub codes: ConditionCodes,
@@ -40,7 +40,7 @@ pub enum Division {
     Refused(ConditionCodes),
 }
 
-// A value with its N and Z, and with these V and C.
+// A value with its condition codes: N if it is negative, Z if it is 0, and V and C as the arguments say.
 #[inline(always)]
 pub(crate) fn with_codes(size: Size, value: u16, overflow: bool, carry: bool) -> Computed
     requires { value < size_limit size }
@@ -71,7 +71,8 @@ pub(crate) fn exact_result(size: Size, unsigned_number: i32, signed_number: i32)
     )
 }
 
-// A number of 32 bits in two words, with its N and Z, and with these V and C.
+// A number of 32 bits in two words, with its condition codes: N if the highest bit is set, Z if all are 0, and V and C as the arguments
+// say.
 pub(crate) fn pair_of(number: u32, overflow: bool, carry: bool) -> Pair
     ensures { result ≡ pair_of number overflow carry }
 {

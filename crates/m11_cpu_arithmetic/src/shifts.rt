@@ -8,9 +8,9 @@ use crate::extended::joined;
 use crate::results::{Computed, Pair, pair_of, with_codes};
 use m11_base::Size;
 
-/// The result of ASH on its register. The six lowest bits of `count` are a signed number, the places by which the word is shifted:
-/// to the left, or to the right if it is negative. C is the last bit shifted out, or clear if there is none; V is set if the sign
-/// changed on the way. (PDP-11/40 Processor Handbook, "Extended instruction set": ASH.)
+/// The result of ASH on its register. The six lowest bits of `count`, read as a signed number, are the number of places by which the word
+/// is shifted: to the left, or to the right if that number is negative. C is the last bit shifted out, or clear if there is none; V is set
+/// if the sign changed at any point of the shift. (PDP-11/40 Processor Handbook, "Extended instruction set": ASH.)
 #[tactic(auto, unfolding(crate::specs::Shifts::shift_result))]
 pub fn shift(value: u16, count: u16) -> Computed
     ensures { result ≡ shift_result value count }
@@ -25,9 +25,9 @@ pub fn shift(value: u16, count: u16) -> Computed
     )
 }
 
-/// The result of ASHC on the 32 bits of two words. The six lowest bits of `count` are a signed number, the places by which the bits
-/// are shifted: to the left, or to the right if it is negative. C is the last bit shifted out, or clear if there is none; V is set if
-/// the sign changed on the way. (PDP-11/40 Processor Handbook, "Extended instruction set": ASHC.)
+/// The result of ASHC on the 32 bits of two words. The six lowest bits of `count`, read as a signed number, are the number of places by
+/// which the bits are shifted: to the left, or to the right if that number is negative. C is the last bit shifted out, or clear if there is
+/// none; V is set if the sign changed at any point of the shift. (PDP-11/40 Processor Handbook, "Extended instruction set": ASHC.)
 #[tactic(auto, unfolding(crate::specs::Shifts::shift_pair_result))]
 pub fn shift_pair(high: u16, low: u16, count: u16) -> Pair
     ensures { result ≡ shift_pair_result high low count }
@@ -41,8 +41,8 @@ pub fn shift_pair(high: u16, low: u16, count: u16) -> Pair
     )
 }
 
-// A number of at most 32 bits, shifted by the signed number in the six lowest bits of a count: to the left, or to the right if it is
-// negative.
+// A signed number of at most 32 bits, shifted. The six lowest bits of `count`, read as a signed number, are the number of places by which
+// it is shifted: to the left, or to the right if the number of places is negative. A shift to the right rounds down.
 fn shifted(number: i64, count: u16) -> i64
     requires { FitsSigned w32 number }
     ensures { result ≡ shifted number (places count) }
@@ -63,7 +63,7 @@ fn moved_left(number: i64, count: u16) -> i64
     number << count
 }
 
-// The last bit shifted out of a number of `width` bits; clear if the number isn't shifted.
+// The last bit that `shifted` shifts out of a number of `width` bits; clear if the number of places is 0.
 fn last_bit(width: u16, number: i64, count: u16) -> bool
     requires number { FitsSigned w32 number }
     requires width { width ≤ 32 }
@@ -80,7 +80,7 @@ fn last_bit(width: u16, number: i64, count: u16) -> bool
     }
 }
 
-// The binary digit that is worth 2 to the `power` in a number.
+// Whether bit `power` of a number in two's complement is set; bit 0 is the lowest.
 fn digit(number: i64, power: u16) -> bool
     requires { power < 64 }
     ensures { result ≡ digit number power }

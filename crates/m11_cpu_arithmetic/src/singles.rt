@@ -9,9 +9,9 @@ use crate::results::{Computed, with_codes};
 use crate::sizes::{complement, kept, overflows, sign_bit, signed};
 use m11_base::{ConditionCodes, SingleOp, Size};
 
-/// The result of an operation on its operand. `codes` are the condition codes before the operation. Operands of bytes are below
-/// octal 400, and so is the result. JMP, and SWAB of a byte, compute nothing: value and codes stay as they are. The result of TST
-/// is stored nowhere. (PDP-11/40 Processor Handbook, "Instruction set": single operand instructions.)
+/// The result of an operation on its operand. `codes` are the condition codes before the operation. A byte operand is below octal 400, and
+/// so is its result. JMP, and SWAB of a byte, compute nothing: value and codes stay as they are. The result of TST is stored nowhere.
+/// (PDP-11/40 Processor Handbook, "Instruction set": single operand instructions.)
 #[tactic(auto, unfolding(crate::specs::Singles::single_result))]
 #[inline(always)]
 pub fn single(operation: SingleOp, size: Size, value: u16, codes: ConditionCodes) -> Computed
@@ -38,7 +38,8 @@ pub fn single(operation: SingleOp, size: Size, value: u16, codes: ConditionCodes
     }
 }
 
-// A word with its two bytes swapped; N and Z are those of the byte that is now the lower one. A byte and its codes stay as they were.
+// A word with its two bytes swapped. N and Z are those of the byte that is now the lower one, and V and C are clear. A byte and its codes
+// stay as they were.
 #[inline(always)]
 fn swapped(size: Size, value: u16, codes: ConditionCodes) -> Computed
     requires { value < size_limit size }
@@ -53,7 +54,7 @@ fn swapped(size: Size, value: u16, codes: ConditionCodes) -> Computed
     }
 }
 
-// A result that leaves C as it was.
+// The result, but with C as it is in `codes`.
 #[inline(always)]
 fn keeping_carry(codes: ConditionCodes, computed: Computed) -> Computed
     ensures { result ≡ keeping_carry codes computed }
@@ -67,7 +68,7 @@ fn keeping_carry(codes: ConditionCodes, computed: Computed) -> Computed
     }
 }
 
-// The negative of a value. V is set if it doesn't fit the size, and C unless the result is 0.
+// The negative of a value. V is set if the exact signed negative doesn't fit the size, and C unless the result is 0.
 #[inline(always)]
 fn negated(size: Size, value: u16) -> Computed
     requires { value < size_limit size }
@@ -93,7 +94,7 @@ fn less_carry(size: Size, value: u16, carry: bool) -> Computed
     )
 }
 
-// A value after a shift by one place. C is the bit shifted out, and V says whether N and C differ.
+// A value after a shift by one place. C is `bit`, the bit shifted out, and V is set if N and C differ.
 #[inline(always)]
 fn stepped(size: Size, value: u16, bit: bool) -> Computed
     requires { value < size_limit size }
@@ -102,7 +103,7 @@ fn stepped(size: Size, value: u16, bit: bool) -> Computed
     with_codes(size, value, (signed(size, value) < 0) ^ bit, bit)
 }
 
-// The value one place to the right, with the carry as the highest bit.
+// The value shifted one place to the right, with the carry as the highest bit.
 #[inline(always)]
 fn rotated_right(size: Size, value: u16, carry: bool) -> Computed
     requires { value < size_limit size }
@@ -112,7 +113,7 @@ fn rotated_right(size: Size, value: u16, carry: bool) -> Computed
     stepped(size, value / 2 + front, value % 2 == 1)
 }
 
-// The value one place to the left, with the carry as the lowest bit.
+// The value shifted one place to the left, with the carry as the lowest bit.
 #[inline(always)]
 fn rotated_left(size: Size, value: u16, carry: bool) -> Computed
     requires { value < size_limit size }
@@ -122,7 +123,7 @@ fn rotated_left(size: Size, value: u16, carry: bool) -> Computed
     stepped(size, doubled, sign_bit(size) <= value)
 }
 
-// The value one place to the right, with the sign bit as before.
+// The value shifted one place to the right, with the sign bit as before.
 #[inline(always)]
 fn halved(size: Size, value: u16) -> Computed
     requires { value < size_limit size }

@@ -6,7 +6,7 @@ ghost use Rattle.m11_cpu_arithmetic.specs.Sizes.{size_limit, sign_bit, signed, o
 
 use m11_base::Size;
 
-// The signed number of a value, whose highest bit is the sign.
+// The value as a signed number; its highest bit is the sign.
 #[inline(always)]
 pub(crate) fn signed(size: Size, value: u16) -> i32
     requires { value < size_limit size }
@@ -18,7 +18,7 @@ pub(crate) fn signed(size: Size, value: u16) -> i32
     }
 }
 
-// The lowest bits of an exact number, as many as the size has.
+// The lowest 16 bits of an exact number for a word, or the lowest 8 for a byte.
 #[inline(always)]
 pub(crate) fn kept(size: Size, number: i32) -> u16
     ensures value { result ≡ modulo (size_limit size) number }
@@ -66,7 +66,7 @@ pub(crate) fn is_outside(size: Size, number: i32) -> bool
     }
 }
 
-// The highest bit alone.
+// The value with only the highest bit set.
 #[inline(always)]
 pub(crate) fn sign_bit(size: Size) -> u16
     ensures { result ≡ sign_bit size }

@@ -1,4 +1,4 @@
--- An aborted instruction has changed only registers and the console.
+-- An aborted instruction has changed at most registers and the console.
 use Rattle.std.proofs.Common.{ℕ, ◌+◌, ◌*◌, ◌%◌, Bool, true, false, Option, Some, None, Result, Ok, Err, refl}
 use Rattle.std.specs.Prelude.{⊤}
 use Rattle.m11_base.specs.Instructions.{instruction_of}
@@ -47,7 +47,7 @@ abbrev LeftBy : {A : Type 0} → (Machine → Type 0) → Result A Abort → Mac
 LeftBy I (Ok done) n = ⊤
 LeftBy I (Err abort) n = I n
 
--- it holds after an abort
+-- if the act was aborted, `I` holds for the machine that it left
 abbrev Leaves : {A : Type 0} → (Machine → Type 0) → Result A Abort × Machine → Type 0
 Leaves I y = LeftBy I y.0 y.1
 
@@ -55,13 +55,13 @@ left_by : {A : Type 0} (I : Machine → Type 0) (r : Result A Abort) (n : Machin
 left_by I (Ok done) n i = tt
 left_by I (Err abort) n i = i
 
--- a part that leaves it, before others
+-- if a part keeps `I`, and the parts after it leave `I` if they are aborted, so do all of them together
 kept_first : {A B : Type 0} (I : Machine → Type 0) (act : Act A) (next : A → Act B) (m : Machine) → Keeps I (act m)
     → ((x : A) (n : Machine) → I n → Always (next x n) (λ y. Leaves I y))
     → Always ((act >>= next) m) (λ y. Leaves I y)
 kept_first I act next m k ok = at_bind act next m (λ y. I y.1) (λ y. Leaves I y) k (λ e n i. i) ok
 
--- the same for a part before others that never abort
+-- the same if the first part leaves `I` if it is aborted, and the parts after it do so from any machine
 left_last : {A B : Type 0} (I : Machine → Type 0) (act : Act A) (next : A → Act B) (m : Machine)
     → Always (act m) (λ y. Leaves I y) → ((x : A) (n : Machine) → Always (next x n) (λ y. Leaves I y))
     → Always ((act >>= next) m) (λ y. Leaves I y)

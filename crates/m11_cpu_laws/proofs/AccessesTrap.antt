@@ -118,7 +118,7 @@ abbrev abort_of : {A : Type 0} → Result A Abort → Abort
 abort_of (Ok x) = Traps BusError
 abort_of (Err abort) = abort
 
--- an abort of the whole in its first part is an abort of that part
+-- if two acts in sequence trap through 4 in the first, the first act does so
 first_part : {A B : Type 0} (act : Act A) (m left : Machine) (es : List Exchange)
     → Aborted {A = A} {B = B} act m es (Err (Traps BusError), left) → EndsAt4 {A = A} (act m) es left
 first_part {A = A} {B = B} act m left es a =
@@ -128,7 +128,7 @@ first_part {A = A} {B = B} act m left es a =
     let Q : Machine → Type 0 = λ n. Leads (act m) es (Err (Traps BusError), n) in
     subst Q (sym f) (subst P (sym e) a.leads)
 
--- after an act with this value and machine, P holds for the rest of the exchanges
+-- the act yields a value after some of these exchanges, and P holds for the value, the machine then, and the rest of the exchanges
 record Shifted {A : Type 0} (act : Act A) (P : A → Machine → List Exchange → Type 0) (m : Machine)
     (es : List Exchange) : Type 0 where
   value : A
@@ -194,7 +194,7 @@ bind_traps act next m xs more P s t k = record {
   each = λ es some. bind_each act next m xs more P es s t k (some_apart xs more m es some);
 }
 
--- accesses that don't depend on the value of the first part
+-- if one of the accesses after an act finds nothing, it also does so as an access with that act before it
 constant_to : {A : Type 0} (act : Act A) (ys : List Access) (m n : Machine) (first rest : List Exchange) (x : A)
     → Leads (act m) first (Ok x, n) → SomeFindsNothing ys n rest → SomeFindsNothing (after_act act ys) m (first ++ rest)
 constant_to act [] m n first rest x h s = absurd s
@@ -210,7 +210,7 @@ constant_to act (y ∷ ys) m n first rest x h (inr s) = inr (constant_to act ys 
 abbrev pub is_reached : Result ℕ Abort × Machine → Bool
 is_reached y = is_ok y.0
 
--- the exchanges that lead to an address go through the first part
+-- if two acts in sequence yield an address, the first of them has yielded a value
 reached : {A : Type 0} (act : Act A) (address : A → Act ℕ) (m before : Machine) (es : List Exchange) (a : ℕ)
     → Aborted {A = A} {B = ℕ} act m es (Ok a, before) ⊎ Came act address m es (Ok a, before)
     → Came act address m es (Ok a, before)
@@ -268,7 +268,7 @@ then_accesses act next m xs ys t k =
       from = λ es s. constant_from act ys m es s;
     }) t (λ x n first h. record { only = (k x n).only; each = (k x n).each })
 
--- one access whose address the first part yields
+-- the same for one access whose address depends on the value of the act
 through_to : {A : Type 0} (act : Act A) (size : Size) (address : A → Act ℕ) (m n : Machine)
     (first rest : List Exchange) (x : A) → Leads (act m) first (Ok x, n) → FindsAfter size address x n rest
     → SomeFindsNothing (record { size = size; address = act >>= address } ∷ []) m (first ++ rest)
@@ -300,7 +300,7 @@ through_access act next m xs size address t k =
       from = λ es s. through_from act size address m es s;
     }) t (λ x n first h. record { only = (k x n).only; each = (k x n).each })
 
--- the second act accesses nothing
+-- if the second act never traps through 4, the two in sequence do so only at an access of the first
 quiet_only : {A B : Type 0} (act : Act A) (next : A → Act B) (n m left : Machine) (xs : List Access)
     (es : List Exchange) → TrapsAtThese {A = A} (act n) xs m
     → ((x : A) (o : Machine) (first : List Exchange) → Leads (act n) first (Ok x, o) → NeverAt4 {A = B} (next x o))
@@ -324,7 +324,7 @@ pub never_traps : {A : Type 0} (d : Dialogue (Result A Abort × Machine)) (m : M
     → TrapsAtThese {A = A} d [] m
 never_traps d m k = record { only = λ es left h. k es left h; each = λ es s. absurd s }
 
--- neither act traps
+-- if neither act traps through 4, the two in sequence don't
 pub bind_never : {A B : Type 0} (act : Act A) (next : A → Act B) (m : Machine) → NeverAt4 {A = A} (act m)
     → ((x : A) (n : Machine) → NeverAt4 {A = B} (next x n)) → NeverAt4 {A = B} ((act >>= next) m)
 bind_never act next m k l es left h =

@@ -1,4 +1,4 @@
--- The forming of an address changes at most the console, the program counter and the registers of operands.
+-- Forming an address changes at most the console, the program counter and the registers of operands.
 use Rattle.std.proofs.Common.{◌≡◌, ℕ, true, refl, Option, Some, None}
 use Rattle.m11_base.specs.declared.operand.Mode.{Mode}
 use Rattle.m11_base.specs.declared.operand.Mode.TheVariants as mode
@@ -23,7 +23,7 @@ use Rattle.m11_cpu_machine.specs.declared.addressing.OperandLocation.{OperandLoc
 use Rattle.m11_cpu_machine.specs.declared.addressing.OperandLocation.TheVariants.{InRegister, InMemory}
 use Rattle.m11_cpu_laws.proofs.Parts.{at_asks, at_comes, at_cond, Keeps, keeps_bind}
 
--- changes of the receiver leave I
+-- loads keep a property `I` that changes of the receiver keep
 module _ (I : Machine → Type 0) (receives : (n : Machine) (r : Receiver) → I n → I (record n { receiver = r })) where
   received_keeps : (reply : Reply) (m : Machine) → I m → Keeps I (received reply m)
   received_keeps (Gives byte) m i = at_comes (receives m _ i)
@@ -65,7 +65,7 @@ module _ (I : Machine → Type 0) (receives : (n : Machine) (r : Receiver) → I
   unfolding deferred
   deferred_keeps address m i = keeps_bind I (load_word address) _ m (word_keeps address m i) (λ word n j. at_comes j)
 
--- changes of the program counter leave it too
+-- reading words at the program counter and forming locations keep `I`, if changes of the program counter keep it too
 module _ (I : Machine → Type 0) (receives : (n : Machine) (r : Receiver) → I n → I (record n { receiver = r }))
     (counts : (n : Machine) (v : ℕ) → I n → I (with_register Pc v n)) where
   pub next_word_keeps : (m : Machine) → I m → Keeps I (next_word m)
@@ -78,7 +78,7 @@ module _ (I : Machine → Type 0) (receives : (n : Machine) (r : Receiver) → I
   unfolding indexed
   indexed_keeps register m i = keeps_bind I next_word _ m (next_word_keeps m i) (λ index n j. at_comes j)
 
-  -- changes of a register leave it too, if the mode steps the register
+  -- for a mode that steps its register, changes of this register must keep `I` too
   location_by_keeps : (by : Mode) (register : Register) (size : Size) (m : Machine)
       → (is_stepping by ≡ true → (n : Machine) (v : ℕ) → I n → I (with_register register v n))
       → I m → Keeps I (location_by by register size m)
@@ -110,7 +110,7 @@ pub target_keeps : (I : Machine → Type 0) (operand : Operand) (size : Size) (m
 target_keeps I operand size m k = keeps_bind I (location_of operand size) address_of m k
     (λ location n j. address_keeps I location n j)
 
--- changes of any register leave it too
+-- forming and fetching operands keeps `I`, if changes of every register keep it too
 module _ (I : Machine → Type 0) (receives : (n : Machine) (r : Receiver) → I n → I (record n { receiver = r }))
     (puts : (register : Register) (n : Machine) (v : ℕ) → I n → I (with_register register v n)) where
   pub code_keeps : (m : Machine) → I m → Keeps I (next_word m)

@@ -290,7 +290,7 @@ push_finds : (v : ℕ) (m : Machine) → Finds (no_word_at (push_address m) m) (
 unfolding push
 push_finds v m = store_word_finds (push_address m) v (stack_deepened m)
 
--- a push leaves the stack pointer, and a memory of the same size
+-- whether the second push finds no word depends only on the registers and the size of memory after the first
 same_location : (m n : Machine) → n.registers ≡ (stack_deepened m).registers → length n.memory ≡ length m.memory
     → no_word_at (push_address n) n ≡ no_word_at (push_address (stack_deepened m)) m
 same_location m n e f =

@@ -13,12 +13,12 @@ use Rattle.m11_cpu_machine.proofs.RegistersPut.{put_same}
 use Rattle.m11_cpu_laws.specs.OddRegisters.{IsBothWords, OddRegisters}
 use Rattle.m11_cpu_laws.proofs.WordsPut.{put_length}
 
--- the later of two words that are put into one register stays
+-- if two words are stored in one register, the later one stays
 put_last : (register : Register) (high low : ℕ) (m : Machine) → length m.registers ≡ 8
     → register_of register (with_register register low (with_register register high m)) ≡ low
 put_last register high low m count = put_same register low (with_register register high m) (put_length register high m count)
 
--- a register that is the low word of its own pair
+-- a register that holds the low word of its own pair serves as both words
 both_words : (register : Register) (source : ℕ) (m : Machine) → low_word_of register ≡ register
     → length m.registers ≡ 8 → IsBothWords register source m
 both_words register source m own count =

@@ -37,7 +37,7 @@ taken_so taken a b e = ap (λ (t : Bool). cond t a b) e
 words_forward : (address words : ℕ) → words_on address (pos words) ≡ (address + 2 * words) % 0o200000
 words_forward address words = omega arith
 
--- a difference, which may be below 0
+-- an address minus at most 256 bytes, which may be below 0, is `less` modulo octal 200000
 difference : (below : Bool) (address bytes : ℕ) → nat_lt address bytes ≡ below → bytes ≤ 256
     → modulo 0o200000 (cond below (negsuc (bytes - suc address)) (pos (address - bytes))) ≡ less bytes address
 difference true address bytes e few = let l = ltb-true address bytes e in omega arith

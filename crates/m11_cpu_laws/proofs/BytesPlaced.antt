@@ -47,7 +47,7 @@ within_at address index bytes lt =
     within_from address (address + index) bytes (omega arith) ∙ ap (λ (i : ℕ). slice_get bytes i) same
     ∙ slice_get-get_or bytes index 0 lt
 
--- each byte has its address in memory
+-- bytes that all have addresses in memory
 module _ (address : ℕ) (bytes memory : List ℕ) (fits : address + length bytes ≤ length memory) where
   front_long : length (take address memory) ≡ address
   front_long = length-take-le address memory (omega arith)
@@ -169,7 +169,7 @@ none_outside size (block ∷ blocks) at inside past =
     ap (λ (b : Option ℕ). option_or b (byte_within block at)) (none_outside size blocks at inside.1 past)
     ∙ block_outside size block.0 block.1 at inside.0 past
 
--- blocks after others
+-- the byte of two lists of blocks at an address is that of the second list, or that of the first if the second has none there
 pub byte_of-append : (xs ys : List (ℕ × List ℕ)) (at : ℕ)
     → byte_of (xs ++ ys) at ≡ option_or (byte_of ys at) (byte_of xs at)
 byte_of-append [] ys at = sym (or_none (byte_of ys at))
@@ -177,7 +177,7 @@ byte_of-append (x ∷ xs) ys at =
     ap (λ (b : Option ℕ). option_or b (byte_within x at)) (byte_of-append xs ys at)
     ∙ or_assoc (byte_of ys at) (byte_of xs at) (byte_within x at)
 
--- if one of the blocks has a byte there, all together have one
+-- if one of the blocks has a byte at an address, the list of blocks has one there
 pub has_byte : (xs : List (ℕ × List ℕ)) (block : ℕ × List ℕ) (ys : List (ℕ × List ℕ)) (at byte : ℕ)
     → byte_within block at ≡ Some byte → (x : ℕ) × (byte_of (xs ++ block ∷ ys) at ≡ Some x)
 has_byte xs block ys at byte e =

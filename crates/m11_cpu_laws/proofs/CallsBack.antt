@@ -95,7 +95,7 @@ call_leads register operand m formed called es address runs is_at h e untraced =
     (bind_leads (target operand) (enter register) (advanced Pc 2 m) formed es address (Ok tt, called) h e) refl)
     (turned_next called untraced))
 
--- the return, for the machine before the push
+-- a call returns if the machine before the push is as `Formed` and `CounterAt` say
 called_back : (register : Register) (operand : Operand) (m formed : Machine) (es : List Exchange) (address : ℕ)
     → IsCall register operand m → Formed register m formed
     → CounterAt ((register_of Pc m + call_length operand) % 0o200000) formed

@@ -34,14 +34,14 @@ use Rattle.m11_cpu_laws.proofs.MemoryKept.{bare_quiet, branched_same, compare_qu
 use Rattle.m11_cpu_laws.proofs.Parts.{Always, at_bind, at_comes, at_map, Keeps, keeps_bind}
 use Rattle.m11_cpu_laws.proofs.LocationsStored.{double_stores, exclusive_stores, move_stores, result_stores, single_stores, Stores, word_stores, Writes}
 
--- ---- instructions, each beside its destination
+-- ---- instructions, each with its destination
 
 quiet_follows : {A : Type 0} {d : Dialogue (Result A Abort × Machine)} (memory : List ℕ) (m : Machine)
     → Keeps (Same memory) d
     → Follows d (Comes (Ok [], m)) (Writes memory)
 quiet_follows memory m k = follows_now (at_map k (λ y e. kept_same _ memory y.1.memory e))
 
--- after the address is formed
+-- if an act writes at most its operand's bytes after their address is formed, the whole writes at most its destination
 operand_follows : (operand : Operand) (size : Size) (next : OperandLocation → Act (Unit {0})) (memory : List ℕ) (m : Machine)
     → Same memory m
     → ((location : OperandLocation) (n : Machine) → Same memory n → Always (next location n)
@@ -51,7 +51,7 @@ operand_follows operand size next memory m e k =
     follows_bind (location_of operand size) next _ m (Same memory) (Writes memory) (location_quiet memory operand size m e)
     (λ abort n f. kept_same _ memory n.memory f) (λ location n f. follows_now (k location n f))
 
--- after a source is fetched, too
+-- the same if a source is fetched before the address is formed
 double_follows_at : (operation : DoubleOp) (size : Size) (source destination : Operand) (memory : List ℕ) (m : Machine)
     → Same memory m
     → ((value : ℕ) (location : OperandLocation) (n : Machine) → Same memory n
@@ -130,7 +130,7 @@ single_follows Clr size operand memory m e = write_follows Clr size operand memo
 single_follows Sxt size operand memory m e = write_follows Sxt size operand memory m e
 single_follows other size operand memory m e = change_follows other size operand memory m e
 
--- JSR
+-- JSR writes at most the word that it pushes
 enter_stores : (register : Register) (address : ℕ) (memory : List ℕ) (m : Machine) → Same memory m
     → Always (enter register address m) (λ y. Stores (one_pushed m) memory y)
 unfolding enter push

@@ -45,7 +45,7 @@ every_after {B = B} d next P Q a k = record {
 
 -- ---- outcomes of an act
 
--- the stop by a device, if one aborts the act
+-- the stop that an abort causes; None for a trap
 abbrev pub stop_by : Abort → Option Stop
 stop_by (Traps vector) = None
 stop_by (Stops stop) = Some (stop_of stop)
@@ -64,7 +64,7 @@ abbrev pub Reports : {A : Type 0} → Receiver → Option LastingStop → Dialog
 Reports {A = A} r stands d =
     Every {A = Result A Abort × Machine} d (λ es y. Talked r stands es (abort_stop y.0) y.1)
 
--- ---- nothing, one exchange, and one list of them after another
+-- ---- no exchange, one exchange, and one list of exchanges after another
 
 pub hears_nothing : (r : Receiver) → ReceiverChanges r [] r
 hears_nothing r = record { asked = refl; byte = refl; done = λ e d. d }

@@ -1,4 +1,4 @@
--- A dialogue beside another: a beginning of its exchanges leads the other one to its value.
+-- Two dialogues with common exchanges: whenever the first yields a value, a prefix of its exchanges leads the second to a value.
 use Rattle.std.proofs.Common.{◌≡◌, List, [], ◌++◌, refl, sym, ◌∙◌, ap, append_assoc, Result, Ok, Err}
 use Rattle.m11_cpu_machine.specs.Acts.{Act, unless_aborted, ◌>>=◌}
 use Rattle.m11_cpu_machine.specs.Dialogue.{after, Comes, Dialogue, Exchange, Leads}
@@ -43,7 +43,7 @@ within_more p es fs gs z e w = record {
   leads = w.leads;
 }
 
--- both begin with the same part
+-- if two dialogues begin with the same part, and the rest of one follows the rest of the other, the whole does so too
 follows_after : {A B C : Type 0} (d : Dialogue A) (next : A → Dialogue B) (next' : A → Dialogue C) (P : A → Type 0)
     (R : C → B → Type 0) → Always d P → ((x : A) → P x → Follows (next x) (next' x) R)
     → Follows (after d next) (after d next') R
@@ -76,7 +76,7 @@ follows_bind act next next' m I R a err ok =
     follows_after (act m) (λ came. unless_aborted next came.0 came.1) (λ came. unless_aborted next' came.0 came.1)
     (λ y. I y.1) R a (λ came i. bound_follows next next' I R err ok came.0 came.1 i)
 
--- a part continues from the value of the other dialogue
+-- if a dialogue follows another, it still does with a further part after it whose values are related to the other's value
 pub follows_then : {A B C : Type 0} (d : Dialogue A) (next : A → Dialogue B) (p : Dialogue C) (S : C → A → Type 0)
     (R : C → B → Type 0) → Follows d p S → ((z : C) (x : A) → S z x → Always (next x) (λ y. R z y))
     → Follows (after d next) p R

@@ -1,4 +1,4 @@
--- The bytes read from a tape are a beginning of its blocks: a tape can be read in only one way.
+-- The blocks read from a tape are the first of its blocks: a tape can be read in only one way.
 use Rattle.std.proofs.Common.{◌≡◌, ◌∙◌, ℕ, ◌<◌, List, [], ◌∷◌, ◌++◌, length, take, drop, Ok, refl, sym, ap, subst, append_assoc, arith}
 use Rattle.std.proofs.Math.Seq.{take-append_seam, drop-append_seam}
 use Rattle.std.proofs.lemmas.List.{take_at}
@@ -30,7 +30,7 @@ start_address x y e = cc
 no_start : (x m y : ℕ) → Data x m ≡ Start y → ⊥
 no_start x m y e = cc
 
--- bytes of one length before others
+-- if two lists are equal and are split at the same length, their parts are equal
 same_front : (xs ys us vs : List ℕ) → length xs ≡ length us → xs ++ ys ≡ us ++ vs → (xs ≡ us) × (ys ≡ vs)
 same_front xs ys us vs long e = (
   sym (take-append_seam xs ys) ∙ ap (λ (zs : List ℕ). take (length xs) zs) e ∙ take_at us vs (length xs) (sym long),
@@ -98,7 +98,7 @@ pub record Front (read : Reader) (held blocks : Blocks) (start : ℕ) (left : Li
   pub blocks_are : blocks ≡ held ++ others
   pub are_read : AreRead (part_after read held) others start left
 
--- one more block before those read
+-- if a block was read before these blocks, the blocks with it in front are still the first ones
 one_more : (read : Reader) (address : ℕ) (content content' : List ℕ) (held blocks others : Blocks) (start : ℕ) (left : List ℕ)
     → content' ≡ content → blocks ≡ (address, content') ∷ others
     → Front (next_part (total_of address content)) held others start left

@@ -69,7 +69,8 @@ index_traps register m =
     then_quiet next_word _ m m (word_at_first (register_of Pc) ∷ []) (code_traps m)
     (λ word n first h. done_never _ n)
 
--- a pointer at a known address; the access forms it in another machine with the same memory
+-- reading a pointer at a known address traps through 4 if and only if its access finds nothing, even if that access starts from another
+-- machine
 pointer_traps : (address : ℕ) (access : Access) (m before n : Machine) → access.address m ≡ Comes (Ok address, before)
     → is_nothing access.size address before ≡ no_word_at address n
     → TrapsAtThese {A = OperandLocation} (deferred address n) (access ∷ []) m
@@ -109,7 +110,7 @@ location_traps operand size m = location_by_traps operand.mode operand.register 
 abbrev access_at : OperandLocation → Size → Access
 access_at location size = record { size = size; address = address_of location }
 
--- a register has no address
+-- the access to a register never finds nothing, since a register has no address
 no_address : (register : Register) (size : Size) (m : Machine) (es : List Exchange)
     → FindsNothing (access_at (InRegister register) size) m es → ⊥
 no_address register size m es f =
@@ -178,7 +179,7 @@ compare_traps operation location size source m =
     then_quiet (fetch location size) _ m m (access_at location size ∷ []) (fetch_traps location size m)
     (λ value n first h. done_never tt _)
 
--- a location from which a value was fetched can also be stored to
+-- the location is a register, or something is at its address
 abbrev IsThere : OperandLocation → Size → Machine → Type 0
 IsThere (InRegister register) size m = ⊤
 IsThere (InMemory address) size m = is_nothing size address m ≡ false
@@ -213,7 +214,7 @@ result_never location size computed m i =
     bind_never (store location size computed.value) _ m (store_never location size computed.value m i)
     (λ u n. done_never tt _)
 
--- a destination that is read and then stored to
+-- reading a destination and then storing there traps through 4 if and only if the one access to it finds nothing
 changes_trap : (location : OperandLocation) (size : Size) (computed : ℕ → Machine → Computed) (m : Machine)
     → TrapsAtThese {A = Unit {0}} ((fetch location size >>= λ value n. store_result location size (computed value n) n) m)
     (access_at location size ∷ []) m
@@ -410,7 +411,7 @@ from_trap_traps m =
     (pop_traps (register_of Sp) n (with_register Pc address n) (put_other Sp Pc address n apart) refl)
     (λ word o first h. done_never tt _))
 
--- ---- all
+-- ---- all instructions
 
 next_traps : {B : Type 0} (act : Act (Unit {0})) (next : Unit {0} → Act B) (m : Machine) (xs : List Access)
     → TrapsAtThese {A = Unit {0}} (act m) xs m → ((u : Unit {0}) (n : Machine) → NeverAt4 {A = B} (next u n))

@@ -1,4 +1,4 @@
--- Reading from a feed with a known text: the bytes that are left, and the faults that are possible if they can be read.
+-- Reading from a feed with a known text: the bytes that remain, and the faults that are possible if a part can be read from them.
 use Rattle.std.specs.Prelude.{⊤}
 use Rattle.std.proofs.Common.{◌≡◌, ◌∙◌, ℕ, ◌<◌, List, ◌++◌, length, Option, Some, Ok, Err, sym, ap, subst, arith}
 use Rattle.std.proofs.lemmas.List.{append-nil, length-append}
@@ -8,7 +8,7 @@ use Rattle.m11_obj_blocks.specs.declared.tape_fault.TapeFault.TheVariants as fau
 use Rattle.m11_obj_blocks.specs.Limited.{Position, Took, Read, Inside, Between, Refused, Stop, Stops}
 use Rattle.m11_obj_blocks.specs.Tapes.{why_of}
 
--- these bytes were read, and `rest` is left
+-- the text consists of these bytes, which were read, and of `rest`, which remains
 pub record Left (new : Position) (text : Text) (given : List ℕ) : Type 0 where
   pub rest : Text
   pub split : text.bytes ≡ given ++ rest.bytes
@@ -20,7 +20,7 @@ left_after old new text given known took =
     let gave = subst (λ (t : Option Text). GivesBytes t new.text given) known took.gave in
     record { rest = record { bytes = gave.0; ending = text.ending }; split = gave.1; text_is = gave.2 }
 
--- the faults that are possible if the bytes left can be read
+-- a fault that is possible although a part can be read from the remaining bytes: the device failed, or there are more bytes than `room`
 abbrev pub MayStop : ℕ → List ℕ → TapeFault → Type 0
 MayStop room bytes fault.Device = ⊤
 MayStop room bytes fault.TooMuch = room < length bytes
@@ -28,14 +28,14 @@ MayStop room bytes other = ⊥
 
 module _ (old middle : Position) (text : Text) (known : old.text ≡ Some text) (given : List ℕ) (took : Took old middle given)
     (new : Option Text) where
-  -- the end came after all bytes
+  -- if the end came, all bytes of the text had been read
   all_given : GivesEnd middle.text new → text.bytes ≡ given
   all_given ends =
       let left = left_after old middle text given known took in
       let end = subst (λ (t : Option Text). GivesEnd t new) left.text_is ends in
       left.split ∙ ap (λ (rest : List ℕ). given ++ rest) end.0.0 ∙ append-nil given
 
-  -- a byte came past the limit
+  -- if a byte came when there was no room left, the text has more bytes than the room at the start
   room_passed : (byte : ℕ) → GivesByte middle.text new byte → middle.room ≡ 0 → old.room < length text.bytes
   room_passed byte gives full =
       let left = left_after old middle text given known took in
@@ -63,7 +63,7 @@ module _ {A : Type 0} (read : List ℕ → Read TapeFault A) (old new : Position
   may_stop fault.NoTransfer s = absurd (no_stop s.0 Between (all_given old s.1.0 text known s.0 s.1.1 new.text s.1.2.0) s.2)
   may_stop fault.TooMuch s = room_passed old s.1.0 text known s.0 s.1.1 new.text s.1.2.0 s.1.2.1 s.1.2.3
 
--- the same for the bytes left before some were read
+-- a fault that is possible after some bytes were read was possible before that
 pub stops_before : (old new : Position) (text : Text) (given : List ℕ) (took : Took old new given) (left : Left new text given)
     (said : TapeFault) → MayStop new.room left.rest.bytes said → MayStop old.room text.bytes said
 stops_before old new text given took left fault.Device h = tt

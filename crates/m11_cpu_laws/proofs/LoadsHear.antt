@@ -1,4 +1,4 @@
--- The addresses at which a load asks, and at which it clears done.
+-- The addresses at which a load asks for a byte, and at which it clears done.
 use Rattle.std.proofs.Common.{◌≡◌, ℕ, ◌==◌, Bool, true, false, cond, List, Option, Some, None, Result, Ok, refl}
 use Rattle.std.specs.Prelude.{not, ◌&&◌}
 use Rattle.std.proofs.lemmas.Bool.{eqb-true}
@@ -16,7 +16,7 @@ use Rattle.m11_cpu_laws.proofs.PartsReport.{still_open}
 abbrev Hearing : ℕ → Machine → Dialogue (Result ℕ Abort × Machine) → Type 0
 Hearing address m d = Every {A = Result ℕ Abort × Machine} d (λ es y. LoadReceives address m es y.1)
 
--- a load that asks nothing and leaves the receiver
+-- `Hearing` holds for a load that asks for nothing and leaves the receiver unchanged
 silent : (address : ℕ) (m : Machine) (x : Result ℕ Abort) → Hearing address m (Comes (x, m))
 silent address m x =
     every_comes (x, m) _ (record { asks = λ some. absurd (some refl); clears = λ before after. absurd (cc) })
@@ -26,7 +26,7 @@ hearing_cond : (address : ℕ) (m : Machine) (test : Bool) {a b : Dialogue (Resu
 hearing_cond address m true p q = p
 hearing_cond address m false p q = q
 
--- ---- which addresses these are
+-- ---- the addresses of the receiver's registers
 
 abbrev chosen : Bool → Bool → Bool → Bool → Bool → DeviceRegister → Type 0
 chosen first second third fourth fifth register =
@@ -67,7 +67,7 @@ not_done : (done ended : Bool) → (not done && not ended) ≡ true → done ≡
 not_done false ended h = refl
 not_done true ended h = absurd (cc)
 
--- a load of the receiver's status that asks
+-- `Hearing` holds for a load of the receiver's status that may ask for a byte
 asking_hears : (address : ℕ) (m : Machine) (d : Dialogue (Result ℕ Abort × Machine)) → address ≡ 0o177560
     → is_waiting m.receiver ≡ true → Hearing address m d
 asking_hears address m d e waits = record {

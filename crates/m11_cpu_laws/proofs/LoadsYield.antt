@@ -40,7 +40,7 @@ module _ (image : Image) (text : Text) (tape : IsTapeOf image text.bytes) (fault
         (subst (λ (bytes : List ℕ). AreRead first_part tape.blocks tape.start bytes) left.split
         (tape_read tape.blocks tape.start text.bytes tape.consists))
 
-    -- the next part can't be read
+    -- if the next part can't be read, the fault is one that `MayStop` allows
     pub part_stops : (new : Position) (said : TapeFault) → Stops (part_after first_part blocks) following new (why_of said)
         → MayStop most_bytes text.bytes said
     part_stops new said stops =
@@ -48,7 +48,7 @@ module _ (image : Image) (text : Text) (tape : IsTapeOf image text.bytes) (fault
         stops_before beginning following text put.given put.took left said
         (may_stop (part_after first_part blocks) following new left.rest left.text_is x.0 x.1 said stops)
 
-    -- the next part is the transfer block
+    -- the case in which the next part is the transfer block
     module _ (new : Position) (start : ℕ) (last : Reads (part_after first_part blocks) following new (Start start)) where
       after_last : Left new left.rest last.given
       after_last = left_after following new left.rest last.given left.text_is last.took
@@ -66,7 +66,7 @@ module _ (image : Image) (text : Text) (tape : IsTapeOf image text.bytes) (fault
       pub start_found : start ≡ tape.start
       start_found = last_is.1
 
-    -- the next part is a header, and some bytes of its data came
+    -- the case in which the next part is a header, and fewer than all bytes of its data were read
     module _ (opened here : Position) (address count : ℕ) (taken : List ℕ)
         (header : Reads (part_after first_part blocks) following opened (Data address count)) (took : Took opened here taken)
         (some : length taken < count) where

@@ -32,7 +32,7 @@ use Rattle.m11_cpu_laws.proofs.Parts.{Always, at_bind, at_comes, at_cond, at_sen
 abbrev pub Stores : {A : Type 0} → List ℕ → List ℕ → Result A Abort × Machine → Type 0
 Stores bytes memory y = Kept (written_by y.0 (Ok bytes)) memory y.1.memory
 
--- the same, with the outcome that yields the destination
+-- the same for the bytes that the first outcome yields; none if it is an abort
 abbrev pub Writes : {A : Type 0} → List ℕ → Result (List ℕ) Abort × Machine → Result A Abort × Machine → Type 0
 Writes memory z y = Kept (written_by y.0 z.0) memory y.1.memory
 
@@ -40,7 +40,7 @@ stores_none : {A : Type 0} (bytes memory : List ℕ) (y : Result A Abort × Mach
     → Stores bytes memory y
 stores_none bytes memory y e = kept_same (written_by y.0 (Ok bytes)) memory y.1.memory e
 
--- devices accept what is stored above memory
+-- a store to a device writes no byte of memory
 module _ (bytes memory : List ℕ) where
   sent_stores : (taken : Bool) (m : Machine) → Same memory m → Always (sent taken m) (λ y. Stores bytes memory y)
   sent_stores true m e = at_comes (kept_same _ memory m.memory e)
@@ -87,7 +87,7 @@ moved_stores (InRegister register) Word v memory m e = location_stores (InRegist
 moved_stores (InRegister register) Byte v memory m e = at_comes (kept_same _ memory m.memory e)
 moved_stores (InMemory address) size v memory m e = location_stores (InMemory address) size v memory m e
 
--- the condition codes set after it
+-- setting the condition codes after a store leaves memory unchanged
 finished_memory : (test : Bool) (codes : ConditionCodes) (m : Machine)
     → (cond test m (with_condition_codes codes m)).memory ≡ m.memory
 finished_memory true codes m = refl
@@ -120,7 +120,7 @@ move_stores location size source memory m e =
     finishes (store_moved location size source) location (double_result Mov size source 0 m.status.codes).codes m
     (location_bytes location size) memory (moved_stores location size source memory m e)
 
--- an operation that reads its destination first
+-- an operation that reads its location first writes at most the location's bytes, if the rest of the operation does
 changes : (location : OperandLocation) (size : Size) (next : ℕ → Act (Unit {0})) (memory : List ℕ) (m : Machine) → Same memory m
     → ((value : ℕ) (n : Machine) → Same memory n → Always (next value n)
     (λ y. Stores (location_bytes location size) memory y))

@@ -1,4 +1,4 @@
--- The bytes that a write of memory leaves, and the acts that write none.
+-- The bytes that a store to memory leaves unchanged, and the acts that store nothing there.
 use Rattle.std.proofs.Common.{◌≡◌, ℕ, ◌+◌, ◌*◌, ◌/◌, ◌%◌, ◌==◌, Bool, true, false, cond, List, [], ◌∷◌, ◌++◌, length, ◌∙◌, ap}
 use Rattle.std.proofs.lemmas.List.{get_or-set_other, length-set}
 use Rattle.std.specs.Prelude.{ℤ}
@@ -176,7 +176,7 @@ module _ (memory : List ℕ) where
   bare_quiet Iot m e = at_comes e
   bare_quiet Reset m e = at_comes e
 
-  -- at a choice
+  -- a choice between two machines with this memory has this memory
   either_same : (test : Bool) (a b : Machine) → Same memory a → Same memory b → Same memory (cond test a b)
   either_same true a b e f = e
   either_same false a b e f = f

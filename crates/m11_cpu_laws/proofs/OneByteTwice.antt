@@ -55,7 +55,7 @@ later_stands before after start h = (
 abbrev front_bytes : List ℕ
 front_bytes = 1 ∷ 0 ∷ 0o12 ∷ 0 ∷ 0 ∷ 2 ∷ 1 ∷ 2 ∷ 3 ∷ 4 ∷ 0o351 ∷ 1 ∷ 0 ∷ 7 ∷ 0 ∷ 2 ∷ 2 ∷ 0o377 ∷ []
 
--- that byte, and the transfer block
+-- the last byte of the second block, and the transfer block
 abbrev last_bytes : List ℕ
 last_bytes = 0o365 ∷ 1 ∷ 0 ∷ 6 ∷ 0 ∷ 0 ∷ 2 ∷ 0o367 ∷ []
 
@@ -96,7 +96,7 @@ held = (
 )
 
 module _ (ending : Ending) (faults : ℕ) (before : Machine) (fits : 0o1004 ≤ memory_size before) where
-  -- the feed when these bytes are left
+  -- the feed when these bytes remain
   abbrev at : List ℕ → ℕ → Position
   at bytes room = position (Some (record { bytes = bytes; ending = ending })) faults room
 

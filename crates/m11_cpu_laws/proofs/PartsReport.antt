@@ -1,4 +1,4 @@
--- What each part of an instruction asks and sends.
+-- What each part of an instruction asks for and sends.
 use Rattle.std.proofs.Common.{◌≡◌, ℕ, ◌+◌, ◌-◌, ◌*◌, ◌%◌, ◌==◌, Bool, true, false, cond, List, [], ◌∷◌, Option, Some, None, Result, Ok, refl}
 use Rattle.std.specs.Prelude.{ℤ, not, ◌&&◌}
 use Rattle.m11_base.specs.Instructions.{instruction_of}
@@ -244,7 +244,7 @@ store_reports (InRegister register) Byte v m = quiet refl refl refl
 store_reports (InMemory address) Word v m = store_word_reports address v m
 store_reports (InMemory address) Byte v m = store_byte_reports address (v % 256) m
 
--- at a choice of machines with equal receivers
+-- a choice between two machines with this receiver has this receiver
 either_hears : (test : Bool) (a b : Machine) (r : Receiver) → a.receiver ≡ r → b.receiver ≡ r
     → (cond test a b).receiver ≡ r
 either_hears true a b r e f = e

@@ -55,7 +55,7 @@ return_steps called count runs untraced is_at inside =
           ∙ ap (λ (a : ℕ). (a + 2) % 0o200000) same_stack;
     }
 
--- the return, for the machine before the push
+-- a call returns if the machine before the push is as `Formed` and `CounterAt` say
 called_back : (operand : Operand) (m formed : Machine) (es : List Exchange) (address : ℕ)
     → IsPlainCall operand m → Formed Sp m formed
     → CounterAt ((register_of Pc m + call_length operand) % 0o200000) formed

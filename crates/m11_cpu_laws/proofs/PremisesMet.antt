@@ -33,7 +33,7 @@ small memory stack bits = record {
   stopped = None;
 }
 
--- TST @#177560
+-- TST @#177560 makes a request to an input that fails
 pub asks_in_vain : AsksInVain
 unfolding Leads step instruction next_word load_word load_device ◌>>=◌ execute single test_operand fetch_operand location_of deferred fetch receiver_status receive value turned row_of rows
 asks_in_vain =
@@ -45,7 +45,7 @@ asks_in_vain =
       leads = refl;
     }
 
--- MOVB R0,@#177566
+-- MOVB R0,@#177566 sends a byte that is refused
 pub sends_in_vain : SendsInVain
 unfolding Leads step instruction next_word load_word load_device ◌>>=◌ execute double double_at move_to store_moved store store_byte store_device send fetch_operand location_of deferred fetch turned row_of rows
 sends_in_vain =
@@ -57,7 +57,7 @@ sends_in_vain =
       leads = (refl, refl);
     }
 
--- EMT, with an odd stack pointer
+-- EMT can't push, since the stack pointer is odd
 pub traps_in_vain : TrapsInVain
 unfolding Leads step instruction next_word load_word ◌>>=◌ execute numbered turned trap push_state push store_word row_of rows
 traps_in_vain =
@@ -69,7 +69,7 @@ traps_in_vain =
       leads = refl;
     }
 
--- NOP, with T set and room on the stack. Its vector is outside memory, and the trap reads 0 there
+-- a machine at a NOP, with T set and room on the stack; the vector of the trace trap is outside memory, and the trap reads 0 there
 abbrev tracing : Machine
 tracing = small (0o240 ∷ 0 ∷ 0 ∷ 0 ∷ 0 ∷ 0 ∷ 0 ∷ 0 ∷ []) 0o10 0o20
 
@@ -83,7 +83,7 @@ step_is_traced = record {
   leads = refl;
 }
 
--- NOP twice
+-- two NOPs: a run of one step reaches its limit after the first, and another run continues with the second
 pub run_is_joined : RunIsJoined
 unfolding Leads run_counted step instruction next_word load_word ◌>>=◌ execute turned ended row_of rows
 run_is_joined =
@@ -96,7 +96,7 @@ run_is_joined =
       second_part = refl;
     }
 
--- MOV #17,@#177776, after its code was read
+-- MOV #17,@#177776, after its code was read, fetches its source and finds its destination at the address of the status word
 pub status_is_stored : StatusIsStored
 unfolding fetch_operand location_of fetch load_word deferred ◌>>=◌
 status_is_stored =
@@ -113,7 +113,7 @@ status_is_stored =
       past_memory = omega arith;
     }
 
--- EMT at 0, whose vector at 30 leads to the RTI at 2
+-- a machine with an EMT at 0, whose vector at octal 30 leads to the RTI at 2
 abbrev trapping : Machine
 trapping =
     small (0 ∷ 0o210 ∷ 2 ∷ 0 ∷ 0 ∷ 0 ∷ 0 ∷ 0 ∷ 0 ∷ 0 ∷ 0 ∷ 0 ∷ 0 ∷ 0 ∷ 0 ∷ 0 ∷ 0 ∷ 0 ∷ 0 ∷ 0 ∷ 0 ∷ 0 ∷ 0 ∷ 0

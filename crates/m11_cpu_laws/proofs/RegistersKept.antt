@@ -1,4 +1,4 @@
--- The registers that an instruction leaves.
+-- The registers that an instruction leaves unchanged.
 use Rattle.std.proofs.Common.{◌≡◌, ◌≢◌, ℕ, ◌+◌, ◌*◌, ◌%◌, ◌==◌, Bool, true, false, cond, List, [], ◌∷◌, ◌++◌, Result, Ok, Err, refl, ◌∙◌, ap}
 use Rattle.std.specs.Prelude.{ℤ, ◌||◌, slice_index, ⊤}
 use Rattle.m11_base.specs.Operand.{register_number}
@@ -52,7 +52,7 @@ use Rattle.m11_cpu_laws.proofs.StepsWrite.{device_keeps, registers_kept}
 use Rattle.m11_cpu_laws.proofs.TracesFollow.{whatever}
 use Rattle.m11_cpu_laws.proofs.WordsPut.{put_other}
 
--- ---- which registers these are
+-- ---- the register of an operand that is stepped or stored to
 
 if_stepped : (k r : ℕ) (steps : Bool) → IsNoneOf k (cond steps (r ∷ []) []) → steps ≡ true → k ≢ r
 if_stepped k r true h e = h.0
@@ -168,7 +168,7 @@ module _ (r : Register) (held : ℕ) (counts : register_number r ≢ register_nu
         );
       }
 
-  -- after a destination is formed
+  -- if an act after the forming of its destination keeps the register, the whole keeps it
   then_held : (operand : Operand) (size : Size) (next : OperandLocation → Act (Unit {0})) (m : Machine)
       → IsNoneOf (register_number r) (stepped_or_stored operand) → Holds m
       → ((location : OperandLocation) (n : Machine) → Apart location → Holds n → Keeps Holds (next location n))
@@ -239,7 +239,7 @@ module _ (r : Register) (held : ℕ) (counts : register_number r ≢ register_nu
       keeps_bind Holds (fetch location size) _ m (fetch_held location size m i)
       (λ value n j. result_held location size _ n apart j)
 
-  -- an operation that stores nothing, and one that stores
+  -- an operation keeps a register that its destination's mode doesn't step, and in which it stores nothing
   reads_held : (operation : DoubleOp) (size : Size) (source : ℕ) (operand : Operand) (m : Machine)
       → IsNoneOf (register_number r) (stepped operand) → Holds m
       → Keeps Holds ((location_of operand size >>= λ location. compare operation location size source) m)

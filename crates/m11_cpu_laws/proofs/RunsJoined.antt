@@ -1,4 +1,4 @@
--- A run is a run of some of its steps and then one of the others.
+-- A run is the same as a run of its first steps, followed by a run of the others.
 use Rattle.std.proofs.Common.{◌≡◌, ℕ, zero, suc, ◌+◌, List, [], ◌∷◌, ◌++◌, refl, sym, ◌∙◌, subst, ap, ap₂, append_assoc, append-nil, arith}
 use Rattle.m11_cpu_machine.specs.declared.machine.Machine.{Machine}
 use Rattle.m11_cpu.specs.declared.runs.Ran.{Ran}
@@ -60,7 +60,7 @@ leads_none : {A : Type 0} (x y : A) → y ≡ x → Leads (Comes x) [] y
 unfolding Leads
 leads_none x y e = e
 
--- one step before a run
+-- a step that doesn't stop, followed by a run, is a run with one more step
 step_first : (left : ℕ) (m m1 m2 : Machine) (es fs : List Exchange) (r : Ran) → Leads (step m) es (Next, m1)
     → Leads (run_counted left m1) fs (r, m2) → Leads (run_counted (suc left) m) (es ++ fs) (one_more r, m2)
 unfolding run_counted
@@ -74,7 +74,7 @@ step_first left m m1 m2 es fs r h k =
     leads_after (step m) es fs (Next, m1) (λ came. following (run_counted left) came.0 came.1) (one_more r, m2) h
     (subst P (append-nil fs) reported)
 
--- the runs after a first step that goes on
+-- if the runs after a first step that doesn't stop are joined, so are the runs with that step
 joined_next : (left second : ℕ) (m m1 m' m'' : Machine) (es1 es2 fs : List Exchange) (steps : ℕ) (r : Ran)
     → ((es fs : List Exchange) (steps : ℕ) (r : Ran) → Leads (run_counted left m1) es (ran Limit steps, m')
     → Leads (run_counted second m') fs (r, m'')
@@ -97,7 +97,7 @@ joined_next left second m m1 m' m'' es1 es2 fs steps r rest h k l =
     subst Q (sym (p.joined ∙ ap (λ (xs : List Exchange). p.first ++ xs) (none_left _ _ p.second p.goes_on)
     ∙ append-nil p.first)) whole
 
--- a step never stops by a limit
+-- the same for any first step, since a step never stops with LIMIT
 joined_cases : (left second : ℕ) (turn : Turn) (m m1 m' m'' : Machine) (es1 es2 fs : List Exchange) (steps : ℕ)
     (r : Ran)
     → ((es fs : List Exchange) (steps : ℕ) (r : Ran) → Leads (run_counted left m1) es (ran Limit steps, m')

@@ -1,4 +1,4 @@
--- The traps that stop a step by STACK FAULT.
+-- The traps that stop a step with STACK FAULT.
 use Rattle.std.proofs.Common.{◌≡◌, Bool, true, false, cond, List, Option, Some, None, Result, Ok, Err, refl, sym, subst, ap, ◌∙◌}
 use Rattle.std.specs.Prelude.{◌&&◌}
 use Rattle.m11_cpu_machine.specs.Dialogue.{Comes, Exchange, Leads}
@@ -88,7 +88,7 @@ step_faulted m m' es e h =
     let P : Option LastingStop → Type 0 = λ s. Leads (step_unless s m) es (Stopped StackFault, m') in
     going_faulted m m' es (subst P e h)
 
--- ---- exactly if
+-- ---- if and only if
 
 abbrev Faults : Turn → Bool → Type 0
 Faults turn bad = device_stop turn ≡ None → is_stack_fault turn ≡ bad

@@ -1,4 +1,4 @@
--- The instructions that leave T, and the status that traps load.
+-- The instructions that leave T unchanged, and the status that traps load.
 use Rattle.std.proofs.Common.{◌≡◌, ℕ, ◌+◌, ◌%◌, ◌==◌, Bool, true, false, cond, Option, Some, None, Result, Ok, Err, refl, ◌∙◌}
 use Rattle.std.specs.Prelude.{ℤ, List, ⊤}
 use Rattle.m11_base.specs.declared.instruction.BareOp.{BareOp}

@@ -193,7 +193,7 @@ doubles_at_status operation size source destination m first second value address
           (subst P at k) (subst Q (sym byte) (double_ignored operation value formed e i));
     }
 
--- ---- of one operand
+-- ---- instructions of one operand
 
 single_leads : (operation : SingleOp) (size : Size) (operand : Operand) (m formed left : Machine)
     (es : List Exchange) (next : OperandLocation → Act (Unit {0})) (location : OperandLocation)
@@ -245,7 +245,7 @@ changing operation size operand formed h e = record {
       subst P (sym byte) (ignored_single operation formed h);
 }
 
--- CLR and SXT, whose result doesn't depend on the value found
+-- `Finishes` holds for CLR and SXT, whose result doesn't depend on the value found
 writing : (operation : SingleOp) (size : Size) (operand : Operand) (formed : Machine) → EndsBeforeDevices formed
     → single operation size operand ≡ write operation size operand
     → single_result operation size 0 formed.status.codes

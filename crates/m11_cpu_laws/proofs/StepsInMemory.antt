@@ -26,7 +26,7 @@ use Rattle.m11_cpu_laws.specs.Writes.{push_address, stack_deepened}
 cond_so : {A : Type 0} (test : Bool) (a b : A) → test ≡ true → cond test a b ≡ a
 cond_so {A = A} test a b e = ap (λ (t : Bool). cond t a b) e
 
--- one act after another, after exchanges
+-- if a dialogue yields x, and the next one for x yields y at once, the two in sequence yield y after the same exchanges
 pub leads_then : {A B : Type 0} (d : Dialogue A) (next : A → Dialogue B) (es : List Exchange) (x : A) (y : B)
     → Leads d es x → next x ≡ Comes y → Leads (after d next) es y
 unfolding Leads

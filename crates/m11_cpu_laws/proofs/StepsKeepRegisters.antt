@@ -1,4 +1,4 @@
--- The registers that a trap and a step leave.
+-- The registers that a trap and a step leave unchanged.
 use Rattle.std.proofs.Common.{◌≡◌, ◌≢◌, ℕ, Bool, true, false, cond, List, [], ◌∷◌, ◌++◌, Option, None, Result, Ok, Err, refl, ◌∙◌, subst}
 use Rattle.m11_base.specs.Instructions.{instruction_of}
 use Rattle.m11_base.specs.Operand.{register_number}
@@ -89,7 +89,7 @@ nothing_stays : {A : Type 0} (x came : A) (m m' : Machine) (es : List Exchange)
 nothing_stays {A = A} x came m m' es h =
     once {A = A × Machine} (λ fs y. RegistersStay [] m y.1) (x, m) es (came, m') (record { stays = λ r none. refl }) h
 
--- the step after the code was read, or could not be
+-- whether the code was read or could not be, at most the program counter and the registers of `changed_by_code` are changed
 code_stays : (read : Result ℕ Abort) (m n left : Machine) (came : Result Ending Abort) (first es : List Exchange)
     → Leads (next_word m) first (read, n)
     → Leads (unless_aborted (λ word. execute (instruction_of word)) read n) es (came, left)

@@ -1,4 +1,4 @@
--- What a step asks and sends, and the stop that it yields.
+-- What a step asks for and sends, and the stop that it yields.
 use Rattle.std.proofs.Common.{◌≡◌, Bool, true, false, cond, List, [], ◌∷◌, ◌++◌, append-nil, Option, Some, None, Result, Ok, Err, refl, sym, ◌∙◌, subst}
 use Rattle.m11_base.specs.declared.operand.Register.TheVariants.{Pc}
 use Rattle.m11_cpu_machine.specs.Dialogue.{Asked, Comes, Ends, Exchange, Fails, Gives, Leads, Sent}
@@ -45,7 +45,7 @@ at_end : {B : Type 0} (P : List Exchange → B → Type 0) (fs : List Exchange) 
 at_end P fs y p =
     let Q : List Exchange → Type 0 = λ xs. P xs y in every_comes y _ (subst Q (sym (append-nil fs)) p)
 
--- no exchange stops a step by a stack fault
+-- no exchange stops a step with STACK FAULT
 pub no_stack_fault : (es : List Exchange) → StopsAtFailure es (Some stop.StackFault) → ⊥
 no_stack_fault [] h = cc
 no_stack_fault (Asked (Gives byte) ∷ es) h = no_stack_fault es h

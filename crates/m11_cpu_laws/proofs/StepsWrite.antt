@@ -61,7 +61,7 @@ at_most : {A : Type 0} (bytes old new : List ℕ) (r : Result A Abort) → Kept 
 at_most bytes old new (Ok done) k = k
 at_most bytes old new (Err abort) k = fewer bytes old new k
 
--- a push writes its word and sets the stack pointer
+-- a push wrote at most its word, and changed no register but the stack pointer, which it set
 abbrev pub Pushes : Machine → Result (Unit {0}) Abort × Machine → Type 0
 Pushes m y = Stores (one_pushed m) m.memory y × (y.1.registers ≡ (stack_deepened m).registers)
 

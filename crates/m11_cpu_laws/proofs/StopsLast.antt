@@ -17,7 +17,7 @@ use Rattle.m11_cpu_machine.specs.Steps.{ended, instruction, step, step_unless, t
 use Rattle.m11_cpu_machine.specs.Stop.{stop_of}
 use Rattle.m11_cpu_machine.specs.Traps.{push_state, stopped_by, trap, trap_pushed}
 
--- the dialogue after a first one, with the exchanges left
+-- if two dialogues in sequence yield y, the second yields y for some value of the first, after the rest of the exchanges
 pub after_it : {A B : Type 0} (d : Dialogue A) (next : A → Dialogue B) (es : List Exchange) (y : B)
     → Leads (after d next) es y → (x : A) × (fs : List Exchange) × Leads (next x) fs y
 unfolding Leads
@@ -29,7 +29,7 @@ after_it (Sends byte by) next [] y h = absurd h
 after_it (Sends byte by) next (Asked reply ∷ es) y h = absurd h
 after_it (Sends byte by) next (Sent sent was_taken ∷ es) y h = after_it (by was_taken) next es y h.1
 
--- a value without exchanges
+-- a dialogue that yields a value at once yields no other value
 pub at_once : {A : Type 0} (x y : A) (es : List Exchange) → Leads (Comes x) es y → y ≡ x
 unfolding Leads
 at_once x y [] h = h

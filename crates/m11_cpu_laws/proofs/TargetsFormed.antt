@@ -23,7 +23,8 @@ use Rattle.m11_cpu_laws.proofs.Parts.{Always, at_bind, at_comes, at_map, Keeps}
 use Rattle.m11_cpu_machine.proofs.RegistersPut.{put_same}
 use Rattle.m11_cpu_laws.proofs.WordsPut.{put_length, put_other}
 
--- the parts of the machine that stay
+-- after a target is formed, there are eight registers, this register, the stack pointer and memory are unchanged, T is clear, and there is
+-- no lasting stop
 pub record Formed (register : Register) (m n : Machine) : Type 0 where
   pub count : length n.registers ≡ 8
   pub link : register_of register n ≡ register_of register m
@@ -80,7 +81,7 @@ call_forms register operand m running not_counter keeps_link keeps_stack =
     (unstepped _ _ _ keeps_stack s) f)
     (formed_puts register Pc m m _ not_counter apart begun))
 
--- the program counter after it
+-- the program counter has this value, and there are eight registers
 pub record CounterAt (v : ℕ) (n : Machine) : Type 0 where
   pub counter : register_of Pc n ≡ v
   pub count : length n.registers ≡ 8
@@ -99,7 +100,7 @@ counted : {A : Type 0} (v : ℕ) (r : Result A Abort) (n : Machine) → CounterA
 counted v (Ok x) n c = c
 counted v (Err e) n c = tt
 
--- two bytes after the code
+-- the address 2 bytes after this one, modulo octal 200000
 abbrev pub following : ℕ → ℕ
 following p = (p + 2) % 0o200000
 

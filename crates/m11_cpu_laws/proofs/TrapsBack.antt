@@ -51,7 +51,7 @@ psw_small s =
     let c = bit_small s.codes.carry in
     omega arith
 
--- only the low byte counts
+-- only the low byte of a status word counts
 low_byte_of_status : (w : ℕ) → psw_of (status_of w) ≡ w % 256
 low_byte_of_status w =
     let t = bit_read (w / 16 % 2) (omega arith) in
@@ -61,7 +61,7 @@ low_byte_of_status w =
     let c = bit_read (w % 2) (omega arith) in
     omega arith
 
--- the word of a status, read again
+-- a status stored as a word, and loaded from it, gives the same word again
 status_again : (s : ProcessorStatus) → psw_of (status_of (psw_of s)) ≡ psw_of s
 status_again s = let e = low_byte_of_status (psw_of s) in let f = psw_small s in omega (arith, e, f)
 

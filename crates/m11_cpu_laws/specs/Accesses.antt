@@ -67,7 +67,7 @@ abbrev pub operand_accesses : Operand → Size → List Access
 operand_accesses operand size =
     pointers operand ++ record { size = size; address = location_of operand size >>= address_of } ∷ []
 
--- the accesses of each instruction after its code is read; a destination is one access, whether it is read, written or both
+-- the accesses of an instruction after its code is read; a destination is one access, whether it is read, written or both
 abbrev pub accesses_of : Insn → List Access
 accesses_of (insn.Double operation size source destination) =
     operand_accesses source size ++ after_act (fetch_operand source size) (operand_accesses destination size)
@@ -83,7 +83,7 @@ accesses_of (insn.Bare Rti) = word_at_first (register_of Sp) ∷ after_act pop (
 accesses_of (insn.Bare Rtt) = word_at_first (register_of Sp) ∷ after_act pop (word_at_first (register_of Sp) ∷ [])
 accesses_of other = []
 
--- ---- which of them trap
+-- ---- accesses that trap
 
 -- whether there is nothing at an address for an access of this size
 abbrev pub is_nothing : Size → ℕ → Machine → Bool
@@ -118,6 +118,6 @@ pub record TrapsAtThese {A : Type 0} (d : Dialogue (Result A Abort × Machine)) 
 abbrev pub InstructionTraps : Insn → Machine → Type 0
 InstructionTraps code m = length m.registers ≡ 8 → TrapsAtThese (execute code m) (accesses_of code) m
 
--- the reading of the code traps through 4 if and only if the access to the word at the program counter finds nothing
+-- reading the code traps through 4 if and only if the access to the word at the program counter finds nothing
 abbrev pub CodeTraps : Machine → Type 0
 CodeTraps m = TrapsAtThese (next_word m) (word_at_first (register_of Pc) ∷ []) m

@@ -26,7 +26,7 @@ use Rattle.m11_cpu_laws.specs.Writes.{push_address, stack_deepened}
 
 -- ---- addresses
 
--- the five registers above memory: the four of the console, and the processor status word
+-- whether one of the five registers above memory has this address: the four of the console, and the processor status word
 abbrev pub has_register : ℕ → Bool
 has_register address =
     address == 0o177560 || (address == 0o177562 || (address == 0o177564 || (address == 0o177566
@@ -35,11 +35,11 @@ has_register address =
 abbrev pub is_in_memory : ℕ → Machine → Bool
 is_in_memory address m = nat_lt address (memory_size m)
 
--- whether there is no word: the address is odd, or is neither in memory nor that of a register
+-- whether there is no word at this address: it is odd, or is neither in memory nor that of a register
 abbrev pub no_word_at : ℕ → Machine → Bool
 no_word_at address m = address % 2 == 1 || (not (is_in_memory address m) && not (has_register address))
 
--- whether there is no byte: the address is neither in memory nor in the word of a register
+-- whether there is no byte at this address: it is neither in memory nor in the word of a register
 abbrev pub no_byte_at : ℕ → Machine → Bool
 no_byte_at address m = not (is_in_memory address m) && not (has_register (address - address % 2))
 
@@ -64,7 +64,7 @@ abbrev pub TrapsWhere : {A : Type 0} → Bool → Dialogue (Result A Abort × Ma
 TrapsWhere {A = A} bad access = (exchanges : List Exchange) (came : Result A Abort) (m' : Machine)
     → Leads access exchanges (came, m') → traps_through_4 came ≡ bad
 
--- this instruction traps through 10, and changes nothing, if this operand is a register, as JMP and JSR do
+-- if this operand is a register, this instruction, JMP or JSR, traps through 10 and changes nothing
 abbrev pub TrapsThrough10 : Insn → Operand → Machine → Type 0
 TrapsThrough10 code operand m = operand.mode ≡ mode.Register → execute code m ≡ Comes (Err (Traps Reserved), m)
 
@@ -90,7 +90,7 @@ TrapFaults vector m = (exchanges : List Exchange) (turn : Turn) (m' : Machine)
     → Leads (trap vector m) exchanges (turn, m') → device_stop turn ≡ None
     → is_stack_fault turn ≡ cannot_push m
 
--- some trap of the machine, as the instruction left it, stops with STACK FAULT, and there is no word for a push
+-- a trap taken by the machine that the instruction left stops with STACK FAULT, and there is no word for one of the trap's pushes
 pub record TrapFaulted (left : Machine) (exchanges : List Exchange) (m' : Machine) : Type 0 where
   pub vector : Vector
   pub trapped : Leads (trap vector left) exchanges (Stopped StackFault, m')
@@ -103,7 +103,8 @@ pub record StepFaulted (m : Machine) (exchanges : List Exchange) (m' : Machine) 
   pub executed : ComesWithin (instruction m) exchanges (came, left)
   pub by_trap : TrapFaulted left executed.rest m'
 
--- whether a trap follows and finds no word for a push: the trap of the instruction, or a trace trap if T is set after it
+-- whether a trap follows an instruction and finds no word for a push: the instruction's own trap, or a trace trap if the instruction
+-- leaves T set and isn't RTT, HALT or WAIT
 abbrev pub cannot_trap : Result Ending Abort → Machine → Bool
 cannot_trap (Ok ending.Next) left = left.status.trace && cannot_push left
 cannot_trap (Ok ending.Untraced) left = false
@@ -112,7 +113,7 @@ cannot_trap (Ok ending.Waits) left = false
 cannot_trap (Err (Traps vector)) left = cannot_push left
 cannot_trap (Err (Stops stop)) left = false
 
--- a step that no device stops ends with STACK FAULT if and only if the trap that follows finds no word for a push
+-- a step that no device stops ends with STACK FAULT if and only if a trap follows its instruction and finds no word for a push
 pub record StepFaults (m : Machine) (exchanges : List Exchange) (turn : Turn) : Type 0 where
   pub came : Result Ending Abort
   pub left : Machine

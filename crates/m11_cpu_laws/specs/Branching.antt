@@ -30,7 +30,7 @@ pub record BranchGoes (operation : BranchOp) (m : Machine) : Type 0 where
       (with_register Pc (less (2 * (words + 1)) (register_of Pc m)) m)
   pub not_taken : (words : ℤ) → is_taken operation m.status.codes ≡ false → Leaves (insn.Branch operation words) m m
 
--- SOB subtracts 1 from its register, and goes back by its number of words if the result isn't 0; of SOB with the program counter this
+-- SOB subtracts 1 from its register, and goes back by its number of words if the result isn't 0; for SOB with the program counter this
 -- covers only the result 0
 pub record SobGoes (register : Register) (words : ℕ) (m : Machine) : Type 0 where
   pub ends : less 1 (register_of register m) ≡ 0
@@ -39,8 +39,8 @@ pub record SobGoes (register : Register) (words : ℕ) (m : Machine) : Type 0 wh
       → Leaves (insn.Sob register words) m
       (with_register Pc (less (2 * words) (register_of Pc m)) (with_register register (less 1 (register_of register m)) m))
 
--- if the word that MARK pops is in memory, MARK sets the stack pointer past its number of words, counted from the word after its code;
--- then it goes to the address in R5, and pops R5
+-- if the word that MARK pops is in memory, MARK sets the stack pointer to the program counter, which is past the code of MARK, plus this
+-- number of words; then it goes to the address in R5, and pops R5
 pub record MarkGoes (number : ℕ) (m : Machine) : Type 0 where
   pub goes : let top = (register_of Pc m + 2 * number) % 0o200000 in
       length m.registers ≡ 8 → IsWordInside top m

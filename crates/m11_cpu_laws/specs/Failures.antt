@@ -7,7 +7,7 @@ use Rattle.m11_cpu_machine.specs.declared.stop.Stop.TheVariants.{Halt, Limit, Wa
 use Rattle.m11_cpu_machine.specs.declared.stop.Turn.{Turn}
 use Rattle.m11_cpu_machine.specs.declared.stop.Turn.TheVariants.{Next, Stopped}
 
--- the stop of a step that is caused by a device, if there is one
+-- the stop of a step if a device caused it; None if there is no stop or it has another cause
 abbrev pub device_stop : Turn → Option Stop
 device_stop Next = None
 device_stop (Stopped Halt) = None
@@ -28,7 +28,7 @@ StopsAtFailure (Asked Fails ∷ es) stop = (es ≡ []) × (stop ≡ Some InputFa
 StopsAtFailure (Sent byte true ∷ es) stop = StopsAtFailure es stop
 StopsAtFailure (Sent byte false ∷ es) stop = (es ≡ []) × (stop ≡ Some OutputFault)
 
--- the machine isn't stopped after a step that can be followed by another, or that halts or waits
+-- the machine has no lasting stop after a step that can be followed by another, or that halts or waits
 abbrev pub GoesOn : Turn → Machine → Type 0
 GoesOn Next m = m.stopped ≡ None
 GoesOn (Stopped Halt) m = m.stopped ≡ None

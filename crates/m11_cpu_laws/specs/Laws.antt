@@ -1,5 +1,5 @@
--- The bytes that exchanges with the console give and take, the stops that a machine stores, and runs that continue others. (PDP-11/40
--- Processor Handbook; for the console this project's own.)
+-- The bytes that the console's input returns and its output accepts, the stops that a machine stores, and runs that continue others.
+-- (PDP-11/40 Processor Handbook; for the console this project's own.)
 use Rattle.std.specs.Prelude.{◌≡◌, ℕ, ◌+◌, true, false, List, [], ◌∷◌, ◌++◌, Option, Some, None, ⊤}
 use Rattle.std.specs.Io.KnownBytes.{Appends}
 use Rattle.m11_base.specs.Feed.{GivesBytes}
@@ -44,8 +44,8 @@ GainedJust (Some old) (Some new) bytes = Appends old.text new.text bytes
 
 -- ---- stops
 
--- after a stack fault or the stop of a failed device the machine stores that stop; and the step doesn't stop because of a limit or a
--- missing start
+-- if a step stops because of a stack fault or a failed device, the machine stores that stop; and the step doesn't stop because of a limit
+-- or an odd start address
 abbrev pub StopLasts : Turn → Machine → Type 0
 StopLasts Next m = ⊤
 StopLasts (Stopped Halt) m = ⊤

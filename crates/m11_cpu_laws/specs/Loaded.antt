@@ -16,7 +16,7 @@ use Rattle.m11_cpu_laws.specs.Tapes.{transfer_address}
 abbrev pub LiesInside : ℕ → Image → Type 0
 LiesInside size image = (address : ℕ) → size ≤ address → image.byte address ≡ None
 
--- some byte of the image has an address that is this size or more
+-- some byte of the image has an address that isn't below this size
 pub record LiesPast (size : ℕ) (image : Image) : Type 0 where
   pub address : ℕ
   pub byte : ℕ
@@ -34,7 +34,7 @@ pub record HoldsImage (image : Image) (before after : Machine) (start : ℕ) : T
   pub others : after ≡ record before { memory = after.memory }
   pub start_is : start ≡ transfer_address image
 
--- the outcome of loading a tape of an image; since the bytes are a tape, no fault in its blocks can occur: the load fails only for
+-- loading a tape of an image has this outcome; since the bytes are a tape, no fault in its blocks can occur: the load fails only for
 -- a byte outside memory, for the length of the tape, or because the device failed
 abbrev pub LoadYields : Image → Bytes → ℕ → ℕ → Machine → Machine → Result ℕ LoadFault → Type 0
 LoadYields image tape faults faults' before after (Ok start) = HoldsImage image before after start

@@ -15,8 +15,8 @@ use Rattle.m11_cpu_machine.specs.declared.machine.Machine.{Machine}
 abbrev pub is_odd_register : Register → Bool
 is_odd_register register = register_number register % 2 == 1
 
--- MUL, DIV and ASHC with this register, once the source is fetched: DIV and ASHC use the register as both words of the pair; afterwards
--- the register has the low word of the product or of the shifted pair, or the remainder; a refused division leaves it unchanged
+-- once the source of MUL, DIV or ASHC is fetched, DIV and ASHC use this register as both words of the pair; afterwards the register has the
+-- low word of the product (MUL) or of the shifted pair (ASHC), or the remainder (DIV); a refused division leaves it unchanged
 pub record IsBothWords (register : Register) (source : ℕ) (m : Machine) : Type 0 where
   pub product : register_of register (extended_by Mul register source m)
       ≡ (product_of (register_of register m) source).low

@@ -38,8 +38,8 @@ abbrev pub indexed_at : Register → Machine → ℕ
 indexed_at register m =
     (memory_at (register_of Pc m) m + register_of register (advanced Pc 2 m)) % 0o200000
 
--- the eight modes of a register, if pointers and index words are in memory; the register of an indexed operand is read after the index
--- word, and reading that word changes the register only if it is the program counter
+-- each of the eight modes of a register finds its operand as in the handbook's table, if pointers and index words are in memory; the
+-- register of an indexed operand is read after the index word, and reading that word changes the register only if it is the program counter
 pub record EightModes (register : Register) (size : Size) (m : Machine) : Type 0 where
   pub direct : location_of (operand_by mode.Register register) size m ≡ Comes (Ok (InRegister register), m)
   pub deferred : IsFoundAt mode.RegisterDeferred register size m (register_of register m) m
@@ -60,8 +60,9 @@ pub record EightModes (register : Register) (size : Size) (m : Machine) : Type 0
   pub index_register : register_number register ≢ register_number Pc
       → register_of register (advanced Pc 2 m) ≡ register_of register m
 
--- the four forms of the program counter: `#n`, `@#a`, `a` and `@a`; before each the program counter is at the word after the
--- instruction's code, or after the word of the source operand; each form advances the program counter by 2 bytes
+-- each of the four forms with the program counter, `#n`, `@#a`, `a` and `@a`, finds its operand as in the handbook's table, if pointers and
+-- index words are in memory; before each the program counter is at the word after the instruction's code, or after the word of the source
+-- operand; each form advances the program counter by 2 bytes
 pub record FormsOfCounter (size : Size) (m : Machine) : Type 0 where
   pub immediate : IsFoundAt mode.Autoincrement Pc size m (register_of Pc m) (advanced Pc 2 m)
   pub immediate_word : IsWordInside (register_of Pc m) m

@@ -5,7 +5,8 @@ use Rattle.m11_cpu_machine.specs.declared.console.Receiver.{Receiver}
 use Rattle.m11_cpu_machine.specs.declared.machine.Machine.{Machine}
 use Rattle.m11_cpu_laws.specs.Laws.{given}
 
--- whether the input has ended, before and after these exchanges; nothing is requested once it has
+-- nothing is requested once the input has ended; the first flag says whether it had ended before these exchanges, the second whether it has
+-- ended after them
 abbrev pub AsksBeforeEnd : Bool → List Exchange → Bool → Type 0
 AsksBeforeEnd ended [] ended' = ended' ≡ ended
 AsksBeforeEnd ended (Asked (Gives byte) ∷ es) ended' = (ended ≡ false) × AsksBeforeEnd false es ended'
@@ -21,8 +22,8 @@ last_given byte (Asked Ends ∷ es) = last_given byte es
 last_given byte (Asked Fails ∷ es) = last_given byte es
 last_given byte (Sent sent taken ∷ es) = last_given byte es
 
--- the change of a receiver by these exchanges: nothing is requested after the end; its byte is the last that arrived; and done is set only
--- if a byte arrived or done was set before
+-- a receiver changes in these exchanges as follows: nothing is requested after the end of the input; the receiver's byte is the last byte
+-- that arrived, or the old byte if none arrived; and done is set only if a byte arrived or done was set before
 pub record ReceiverChanges (old : Receiver) (exchanges : List Exchange) (new : Receiver) : Type 0 where
   pub asked : AsksBeforeEnd old.has_ended exchanges new.has_ended
   pub byte : new.byte ≡ last_given old.byte exchanges
@@ -34,7 +35,7 @@ pub record AsksAt (address : ℕ) (receiver : Receiver) : Type 0 where
   pub not_done : receiver.is_done ≡ false
   pub not_ended : receiver.has_ended ≡ false
 
--- a load requests a byte only as `AsksAt` says, and clears done only at the receiver's data register
+-- a load requests a byte only as `AsksAt` says, and clears done only at the receiver's buffer
 pub record LoadReceives (address : ℕ) (m : Machine) (exchanges : List Exchange) (m' : Machine) : Type 0 where
   pub asks : exchanges ≢ [] → AsksAt address m.receiver
   pub clears : m.receiver.is_done ≡ true → m'.receiver.is_done ≡ false → address ≡ 0o177562

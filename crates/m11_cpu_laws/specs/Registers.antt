@@ -34,11 +34,11 @@ pub record RegistersStay (changed : List ℕ) (old new : Machine) : Type 0 where
   pub stays : (register : Register) → IsNoneOf (register_number register) (register_number Pc ∷ changed)
       → register_of register new ≡ register_of register old
 
--- a list of the number of the register that an operand's mode increments or decrements; empty if the mode does neither
+-- a list with the number of the register that an operand's mode increments or decrements; empty if the mode does neither
 abbrev pub stepped : Operand → List ℕ
 stepped operand = if is_stepping operand.mode then register_number operand.register ∷ [] else []
 
--- whether the operand is the register itself, so that a result for it is stored in the register
+-- whether the operand in this mode is the register itself, so that a result for the operand is stored in the register
 abbrev pub is_direct : Mode → Bool
 is_direct mode.Register = true
 is_direct other = false
@@ -50,8 +50,8 @@ stepped_or_stored operand =
 abbrev pub by_destination : Bool → Operand → List ℕ
 by_destination stores operand = if stores then stepped_or_stored operand else stepped operand
 
--- the numbers of the registers in which an extended instruction may store its result: for MUL, DIV and ASHC these are R and the register
--- of the low word, whose number is that of R with the lowest bit set; for ASH only R
+-- the numbers of the registers in which an extended instruction with the register R may store its result: for MUL, DIV and ASHC these are
+-- R and the register of the low word, whose number is that of R with the lowest bit set; for ASH only R
 abbrev pub by_extended : ExtendedOp → Register → List ℕ
 by_extended Mul register = register_number register ∷ register_number (low_word_of register) ∷ []
 by_extended Div register = register_number register ∷ register_number (low_word_of register) ∷ []
@@ -73,12 +73,14 @@ changed_by (insn.Bare Rti) = register_number Sp ∷ []
 changed_by (insn.Bare Rtt) = register_number Sp ∷ []
 changed_by other = []
 
--- the registers that an instruction may change after its code was read; none if no code could be read
+-- the numbers of the registers, besides the program counter, that an instruction may change after its code was read; none if no code could
+-- be read
 abbrev pub changed_by_code : Result ℕ Abort → List ℕ
 changed_by_code (Ok word) = changed_by (instruction_of word)
 changed_by_code (Err abort) = []
 
--- the stack pointer if a trap follows, otherwise none: the trap of the instruction, or a trace trap if T is set after it
+-- a list with the number of the stack pointer if a trap follows an instruction: the instruction's own trap, or a trace trap if the
+-- instruction leaves T set and isn't RTT, HALT or WAIT; empty if no trap follows
 abbrev pub changed_after : Result Ending Abort → Machine → List ℕ
 changed_after (Ok ending.Next) m = if m.status.trace then register_number Sp ∷ [] else []
 changed_after (Ok ending.Untraced) m = []

@@ -26,7 +26,7 @@ use Rattle.m11_cpu_laws.specs.Writes.{MakesSteps, push_address, stack_deepened}
 
 -- ---- machines that run a program
 
--- the machine isn't stopped, T is clear, and its eight registers contain words
+-- the machine has no lasting stop, T is clear, and its eight registers contain words
 pub record IsRunning (m : Machine) : Type 0 where
   pub not_stopped : MakesSteps m
   pub not_traced : m.status.trace ≡ false
@@ -37,7 +37,7 @@ pub record IsRunning (m : Machine) : Type 0 where
 abbrev pub IsWordInside : ℕ → Machine → Type 0
 IsWordInside address m = (address % 2 ≡ 0) × (address + 1 < memory_size m)
 
--- the program counter is at the code of an instruction, in memory
+-- the code of this instruction is in memory at the program counter
 abbrev pub IsAt : Insn → Machine → Type 0
 IsAt code m = IsWordInside (register_of Pc m) m × (instruction_of (word_at m.memory (register_of Pc m)) ≡ code)
 
@@ -82,8 +82,8 @@ length_by mode.IndexDeferred register = 4
 abbrev pub call_length : Operand → ℕ
 call_length operand = length_by operand.mode operand.register
 
--- a call through one of the registers 0 to 5; its operand's mode changes neither that register nor the stack pointer, and its push goes to
--- memory
+-- the machine's next instruction is a call through this register, one of the registers 0 to 5; the operand's mode changes neither that
+-- register nor the stack pointer, and the push goes to memory
 pub record IsCall (register : Register) (operand : Operand) (m : Machine) : Type 0 where
   pub running : IsRunning m
   pub code : IsAt (insn.Register Jsr register operand) m
@@ -100,7 +100,7 @@ pub record CallIsOver (register : Register) (operand : Operand) (m called : Mach
   pub link : register_of register returned ≡ register_of register m
   pub stack : register_of Sp returned ≡ register_of Sp m
 
--- the call goes to this address, and returns if RTS with that register is there after the push
+-- the call goes to this address, and returns if RTS with the call's register is there after the push
 pub record CallReturns (register : Register) (operand : Operand) (m : Machine) (exchanges : List Exchange)
     (address : ℕ) : Type 0 where
   pub called : Machine
@@ -108,7 +108,7 @@ pub record CallReturns (register : Register) (operand : Operand) (m : Machine) (
   pub counter : register_of Pc called ≡ address
   pub comes_back : IsAt (insn.Rts register) called → CallIsOver register operand m called
 
--- a call goes to its operand's address, which is formed after the code is read, and returns
+-- a call goes to its operand's address, which is formed after the code is read, and returns as `CallReturns` says
 abbrev pub CallsReturn : Register → Operand → Machine → Type 0
 CallsReturn register operand m = (exchanges : List Exchange) (address : ℕ) (formed : Machine)
     → IsCall register operand m → Leads (target operand (advanced Pc 2 m)) exchanges (Ok address, formed)
@@ -124,7 +124,8 @@ pub record CallIsMade : Type 0 where
   pub is_call : IsCall register operand machine
   pub target_formed : target operand (advanced Pc 2 machine) ≡ Comes (Ok address, formed)
 
--- a call that saves no register: JSR PC; its operand's mode doesn't change the stack pointer, and its push goes to memory
+-- the machine's next instruction is a call that saves no register: JSR PC; the operand's mode doesn't change the stack pointer, and the
+-- push goes to memory
 pub record IsPlainCall (operand : Operand) (m : Machine) : Type 0 where
   pub running : IsRunning m
   pub code : IsAt (insn.Register Jsr Pc operand) m
@@ -193,7 +194,8 @@ vector_of (insn.Number Trap number) = Some vector.Trap
 vector_of (insn.Reserved word) = Some vector.Reserved
 vector_of other = None
 
--- a step of an instruction that always traps goes through its vector, and returns to the word after the instruction if RTI is there
+-- a step of an instruction that always traps goes through its vector; if RTI is at the vector's program counter after the pushes, one more
+-- step returns to the word after the instruction
 pub record TrapInstructionReturns (vector : Vector) (m : Machine) : Type 0 where
   pub trapped : Machine
   pub in_one_step : step m ≡ Comes (Next, trapped)

@@ -47,8 +47,8 @@ with_status_word word m = record m { status = status_written word m.status }
 abbrev pub EndsAs : Insn → Machine → List Exchange → Machine → Type 0
 EndsAs code m exchanges left = Leads (execute code m) exchanges (Ok ending.Next, left)
 
--- the machine that an instruction with a destination at this address leaves, given its result for the value there: a result stored at
--- 177776 becomes the whole status word except T; a byte stored at 177777 is ignored, the byte there reads as 0, and the condition
+-- an instruction with a destination at this address, which computes `result` from the value there, leaves the machine as follows: a result
+-- stored at 177776 becomes the whole status word except T; a byte stored at 177777 is ignored, the byte there reads as 0, and the condition
 -- codes are those of the result
 pub record AtStatus (result : ℕ → Computed) (size : Size) (address : ℕ) (formed : Machine) (Leaves : Machine → Type 0) : Type 0
   where
@@ -81,8 +81,8 @@ ExclusivesAtStatus register operand m =
     → AtStatus (λ read. exclusive_or_result (register_of register m) read formed.status.codes) Word address formed
     (EndsAs (insn.Register Xor register operand) m exchanges)
 
--- JSR whose push goes to the status word: the pushed register becomes the whole status word except T, and JSR jumps to the address
--- of its operand
+-- if the push of JSR goes to the status word, the pushed register becomes the whole status word except T, and JSR jumps to the address of
+-- its operand
 abbrev pub CallsAtStatus : Register → Operand → Machine → Type 0
 CallsAtStatus register operand m =
     (exchanges : List Exchange) (address : ℕ) (formed : Machine)

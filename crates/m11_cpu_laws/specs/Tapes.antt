@@ -10,7 +10,8 @@ use Rattle.m11_cpu_laws.specs.Image.{Image, byte_of}
 abbrev pub transfer_address : Image → ℕ
 transfer_address image = unwrap_or image.start 1
 
--- a tape of an image; its blocks may have any order, division and overlap: only the byte that they leave at each address matters
+-- the bytes are a tape of this image; its blocks may come in any order, be divided in any way, and overlap: only the byte that they leave
+-- at each address matters
 pub record IsTapeOf (image : Image) (tape : Bytes) : Type 0 where
   pub blocks : List (ℕ × Bytes)
   pub start : ℕ
@@ -18,6 +19,6 @@ pub record IsTapeOf (image : Image) (tape : Bytes) : Type 0 where
   pub bytes : (address : ℕ) → byte_of blocks address ≡ image.byte address
   pub start_is : start ≡ transfer_address image
 
--- the image whose tape has these blocks and this start
+-- the image of a tape with these blocks and this start
 abbrev pub image_of_blocks : List (ℕ × Bytes) → ℕ → Image
 image_of_blocks blocks start = record { byte = λ address. byte_of blocks address; start = Some start }

@@ -20,7 +20,7 @@ use Rattle.m11_cpu_machine.specs.declared.stop.Stop.TheVariants.{Halt, Wait}
 use Rattle.m11_cpu_machine.specs.declared.stop.Turn.{Turn}
 use Rattle.m11_cpu_machine.specs.declared.stop.Turn.TheVariants.{Next, Stopped}
 
--- no further exchange follows, and the step has this result and this machine
+-- no further exchange follows, and the step ends with this result and this machine
 abbrev pub IsOver : Turn → Machine → List Exchange → Turn × Machine → Type 0
 IsOver turn m exchanges came = (exchanges ≡ []) × (came ≡ (turn, m))
 
@@ -29,8 +29,8 @@ pub record TrapsIfTraced (left : Machine) (exchanges : List Exchange) (came : Tu
   pub traced : left.status.trace ≡ true → Leads (trap Breakpoint left) exchanges came
   pub untraced : left.status.trace ≡ false → IsOver Next left exchanges came
 
--- what follows an instruction that wasn't aborted: nothing after RTT, HALT and WAIT, whatever T is; after any other instruction the trace
--- trap if T is set
+-- after an instruction that wasn't aborted, the rest of the step is this: nothing after RTT, HALT and WAIT, whatever T is; after any other
+-- instruction the trace trap if T is set, and otherwise nothing
 abbrev pub Follows : Insn → Machine → List Exchange → Turn × Machine → Type 0
 Follows (insn.Bare bare.Rtt) left exchanges came = IsOver Next left exchanges came
 Follows (insn.Bare bare.Halt) left exchanges came = IsOver (Stopped Halt) left exchanges came
@@ -43,14 +43,14 @@ FollowsAbort (Traps vector) left exchanges came = Leads (trap vector left) excha
 FollowsAbort (Stops stop) left exchanges came =
     IsOver (Stopped (stop_of stop)) (record left { stopped = Some stop }) exchanges came
 
--- what follows in a step after its instruction was read and ended without an abort
+-- if the instruction of a step is read and ends without an abort, the rest of the step is as `Follows` says
 abbrev pub InstructionEnds : Machine → Type 0
 InstructionEnds m = (word : ℕ) (fetched left : Machine) (ending : Ending) (first second third : List Exchange)
     (came : Turn × Machine) → Leads (next_word m) first (Ok word, fetched)
     → Leads (execute (instruction_of word) fetched) second (Ok ending, left)
     → Leads (step m) ((first ++ second) ++ third) came → Follows (instruction_of word) left third came
 
--- what follows in a step after its instruction was aborted, while it was read or later
+-- if the instruction of a step is aborted, while it is read or later, the rest of the step is as `FollowsAbort` says
 abbrev pub InstructionAborts : Machine → Type 0
 InstructionAborts m = (abort : Abort) (left : Machine) (first second : List Exchange) (came : Turn × Machine)
     → Leads (instruction m) first (Err abort, left) → Leads (step m) (first ++ second) came

@@ -26,7 +26,7 @@ pub record StepIsMade (exchanges : List Exchange) (turn : Turn) : Type 0 where
   pub makes_steps : MakesSteps machine
   pub leads : Leads (step machine) exchanges (turn, left)
 
--- an instruction makes a request to an input that fails; one sends a byte that is refused; and a trap can't push
+-- three such steps: an instruction makes a request to an input that fails; another sends a byte that is refused; and a trap can't push
 abbrev pub AsksInVain : Type 0
 AsksInVain = StepIsMade (Asked Fails ∷ []) (Stopped InputFault)
 

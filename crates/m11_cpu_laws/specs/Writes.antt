@@ -30,7 +30,7 @@ use Rattle.m11_cpu_laws.specs.Exchanges.{ComesWithin}
 
 -- ---- bytes that are unchanged
 
--- the number of an address or a register differs from all of these
+-- an address, or the number of a register, differs from all of these
 abbrev pub IsNoneOf : ℕ → List ℕ → Type 0
 IsNoneOf address [] = ⊤
 IsNoneOf address (other ∷ others) = (address ≢ other) × IsNoneOf address others
@@ -46,7 +46,7 @@ pub record IsElseAsBefore (old new : Machine) : Type 0 where
   pub status : new.status ≡ old.status
   pub stopped : new.stopped ≡ old.stopped
 
--- the machine isn't stopped
+-- the machine has no lasting stop
 abbrev pub MakesSteps : Machine → Type 0
 MakesSteps m = m.stopped ≡ None
 
@@ -61,7 +61,7 @@ location_bytes (InRegister register) size = []
 location_bytes (InMemory address) Word = word_bytes address
 location_bytes (InMemory address) Byte = address ∷ []
 
--- a push goes to the word below the stack pointer, modulo octal 200000, and sets the stack pointer to this address
+-- the address that a push writes to: that of the word below the stack pointer, modulo octal 200000; the push sets the stack pointer to it
 abbrev pub push_address : Machine → ℕ
 push_address m = (register_of Sp m + 0o177776) % 0o200000
 
@@ -77,7 +77,7 @@ two_pushed m = one_pushed m ++ one_pushed (stack_deepened m)
 
 -- ---- the destination of an instruction
 
--- CMP and BIT store nothing
+-- whether an operation stores its result: all do but CMP and BIT
 abbrev pub stores_double : DoubleOp → Bool
 stores_double Mov = true
 stores_double Cmp = false
@@ -87,7 +87,7 @@ stores_double Bis = true
 stores_double Add = true
 stores_double Sub = true
 
--- JMP and TST store nothing
+-- whether an operation stores its result: all do but JMP, which has none, and TST
 abbrev pub stores_single : SingleOp → Bool
 stores_single Jmp = false
 stores_single Swab = true
@@ -113,7 +113,7 @@ abbrev pub no_bytes : Act (List ℕ)
 no_bytes m = Comes (Ok [], m)
 
 -- yields the addresses of the bytes that an instruction may write: those of its destination, whose address is formed after a source
--- is fetched; and for JSR those of the word that it pushes after its target is formed; all others write at most registers, the
+-- is fetched; and for JSR those of the word that it pushes after its target is formed; the other instructions write at most registers, the
 -- processor status word and the console
 abbrev pub destination_bytes : Insn → Act (List ℕ)
 destination_bytes (insn.Double operation size source destination) =
@@ -138,14 +138,14 @@ written_bytes = next_word >>= λ word. destination_bytes (instruction_of word)
 
 -- ---- a step
 
--- the addresses of the bytes that an instruction has written; none if it was aborted
+-- the addresses of the bytes that an instruction may have written; none if it was aborted
 abbrev pub written_by : {A : Type 0} → Result A Abort → Result (List ℕ) Abort → List ℕ
 written_by (Ok done) (Ok bytes) = bytes
 written_by (Ok done) (Err abort) = []
 written_by (Err abort) bytes = []
 
--- the addresses of the bytes that a following trap pushes: the trap of the instruction, or a trace trap if T is set after it; none if
--- no trap follows
+-- the addresses of the bytes that the trap after an instruction pushes: the instruction's own trap, or a trace trap if the instruction
+-- leaves T set and isn't RTT, HALT or WAIT; none if no trap follows
 abbrev pub pushed_after : Result Ending Abort → Machine → List ℕ
 pushed_after (Ok ending.Next) m = if m.status.trace then two_pushed m else []
 pushed_after (Ok ending.Untraced) m = []

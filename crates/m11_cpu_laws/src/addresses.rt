@@ -20,11 +20,12 @@ ghost use Rattle.m11_cpu_laws.specs.Accesses.{CodeTraps, InstructionTraps};
 ghost use Rattle.m11_cpu_laws.specs.Writes.{MakesSteps};
 ghost use Rattle.m11_cpu_laws.specs.Addresses.{no_byte_at, no_word_at, StepFaulted, StepFaults, TrapFaults, TrapsThrough10, TrapsWhere};
 
-/// Bad addresses trap. A load or a store of a word traps through 4 if and only if the address is odd, or is neither in memory nor that
-/// of a register; a load or a store of a byte does so if and only if the address is neither in memory nor in the word of a register.
-/// JMP and JSR to a register trap through 10. If no device fails at a trap's pushes, the trap stops with STACK FAULT if and only if a
-/// push finds no word. A step stops with STACK FAULT if and only if its instruction's trap or the trace trap follows and finds no word
-/// for a push, and no device stops the step. (PDP-11/40 Processor Handbook, "Processor traps", JMP, JSR.)
+/// Bad addresses trap. A load or a store of a word traps through 4 if and only if the address is odd, or is neither in memory nor that of a
+/// console register or of the processor status word. A load or a store of a byte does so if and only if the address is neither in memory
+/// nor in the word of such a register. JMP and JSR to a register trap through 10. If no device fails at a trap's pushes, the trap stops
+/// with STACK FAULT if and only if a push finds no word. A step of a machine without a lasting stop ends with STACK FAULT if and only if
+/// its instruction's trap or the trace trap follows and finds no word for a push, and no device stops the step. (PDP-11/40 Processor
+/// Handbook, "Processor traps", JMP, JSR.)
 #[tactic(auto, using(crate::proofs::AddressesTrap::load_word_traps, crate::proofs::AddressesTrap::load_byte_traps, crate::proofs::AddressesTrap::store_word_traps, crate::proofs::AddressesTrap::store_byte_traps, crate::proofs::AddressesTrap::jump_traps, crate::proofs::AddressesTrap::call_traps, crate::proofs::AddressesTrap::trap_faults, crate::proofs::StackFaults::step_faulted, crate::proofs::StackFaults::step_faults))]
 pub fn bad_addresses_trap()
     ensures loads_word { (address : ℕ) (m : Machine) → TrapsWhere (no_word_at address m) (load_word address m) }
@@ -44,11 +45,11 @@ pub fn bad_addresses_trap()
         → Leads (step m) exchanges (turn, m') → StepFaults m exchanges turn }
 {}
 
-/// An instruction traps through 4 only because of its accesses. First the word at the program counter is read; if nothing is there, the
-/// step traps. After that the instruction traps if and only if one of the accesses that the handbook gives for it finds nothing: to the
-/// index words and pointers of its operands, to the operands, and to the words that it pushes and pops. The address of each access is
-/// formed after everything that the instruction does before it. (PDP-11/40 Processor Handbook, "Addressing modes", "Instruction set",
-/// "Processor traps".)
+/// An instruction traps through 4 only because of its accesses. First the word at the program counter is read, which traps through 4 if
+/// and only if nothing is there. After that the instruction traps through 4 if and only if one of its accesses finds nothing. The handbook
+/// gives these accesses: to the index words and pointers of the instruction's operands, to the operands themselves, and to the words that
+/// the instruction pushes and pops. The address of each access is formed after everything that the instruction does before that access.
+/// (PDP-11/40 Processor Handbook, "Addressing modes", "Instruction set", "Processor traps".)
 pub fn accesses_alone_trap()
     ensures code { (m : Machine) → CodeTraps m }
     ensures instruction { (code : Insn) (m : Machine) → InstructionTraps code m }

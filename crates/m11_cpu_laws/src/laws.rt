@@ -10,7 +10,7 @@ ghost use Rattle.m11_cpu_machine.specs.declared.stop.Turn.{Turn};
 ghost use Rattle.m11_cpu_machine.specs.declared.stop.Turn.TheVariants.{Stopped};
 ghost use Rattle.m11_cpu_laws.specs.Laws.{AreJoined, GainedJust, GaveJust, StopLasts, given, taken};
 
-/// Whatever is requested and sent, the input returned exactly the bytes of its replies, in order, and the output gained exactly the bytes
+/// Whatever was requested and sent, the input returned exactly the bytes of its replies, in order, and the output gained exactly the bytes
 /// that it accepted. So after a step or a run, no byte was requested in advance, and none is held back.
 #[tactic(auto, using(crate::proofs::ConsoleExact::input_exact, crate::proofs::ConsoleExact::output_exact))]
 pub fn console_is_exact()
@@ -20,8 +20,8 @@ pub fn console_is_exact()
         → GainedJust old.output new.output (taken exchanges) }
 {}
 
-/// A step that stops because of a stack fault or a failed device stores this stop in the machine; no step stops because of a limit or a
-/// missing start. Every further step of a machine with a stored stop returns that stop and changes nothing.
+/// A step that stops because of a stack fault or a failed device stores this stop in the machine; no step stops because of a limit or an
+/// odd start address. Every further step of a machine with a stored stop returns that stop and changes nothing.
 #[tactic(auto, using(crate::proofs::StopsLast::step_stands, crate::proofs::StopsLast::step_again))]
 pub fn stops_last()
     ensures kept { (m : Machine) (exchanges : List Exchange) (came : Turn × Machine)

@@ -1,5 +1,5 @@
-//! Laws about steps and runs, which state the results of the machine's definitions independently of them, and about the bytes
-//! that a tape leaves at each address of memory. Each law is the contract of a function that does nothing.
+//! Laws about steps and runs, and about the bytes that a tape leaves at each address of memory. They state what follows from the machine's
+//! definitions, in terms that don't depend on how those definitions are written. Each law is the contract of a function that does nothing.
 #![tactic(auto)]
 
 // Where operands are found, and which accesses trap.

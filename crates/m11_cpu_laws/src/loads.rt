@@ -15,14 +15,14 @@ ghost use Rattle.m11_cpu_laws.specs.Loaded.{HoldsTheSame, LiesInside, LiesPast, 
 ghost use Rattle.m11_cpu_laws.specs.Tapes.{IsTapeOf};
 
 /// A machine into which a tape of an image was loaded contains the image: its bytes are at their addresses, everything else is unchanged,
-/// and the start is that of the image. A load fails only if the image has a byte outside memory (`OutsideMemory`), the tape has more than
-/// 4,194,304 bytes (`TooMuch`), or the device failed (`Device`).
+/// and the start is the image's transfer address. A load fails only if the image has a byte outside memory (`OutsideMemory`), the tape has
+/// more than 4,194,304 bytes (`TooMuch`), or the device failed (`Device`).
 pub fn tapes_load_their_bytes()
     ensures yields { (image : Image) (text : Text) (left : Option Text) (faults faults' : ℕ) (before after : Machine)
         (result : Result ℕ LoadFault) → IsTapeOf image text.bytes
         → LoadsInto (Some text) left faults faults' before after result
         → LoadYields image text.bytes faults faults' before after result }
-    // if none of the three is the case, the tape is loaded
+    // if the whole image lies inside memory, the tape has at most 4,194,304 bytes, and the device didn't fail, the tape is loaded
     ensures loaded { (image : Image) (text : Text) (left : Option Text) (faults faults' : ℕ) (before after : Machine)
         (result : Result ℕ LoadFault) → IsTapeOf image text.bytes
         → LoadsInto (Some text) left faults faults' before after result
@@ -34,9 +34,9 @@ pub fn tapes_load_their_bytes()
         → LoadsInto (Some text) left faults faults' before after (Ok start) → ⊥ }
 {}
 
-/// Machines with different sizes of memory load tapes of one image alike: both have the same bytes up to the end of the smaller memory, the
-/// larger one has 0 after it, and the program starts at the same address. An image that fits into a smaller memory also fits into a larger
-/// one.
+/// New machines with different sizes of memory load tapes of one image alike. If both loads succeed, both machines have the same bytes up
+/// to the end of the smaller memory, the larger memory has 0 after that end, and the program starts at the same address. An image that fits
+/// into a smaller memory also fits into a larger one.
 pub fn larger_memories_hold_the_same()
     ensures alike { (image : Image) (text other_text : Text) (left other_left : Option Text)
         (faults faults' other_faults other_faults' words more_words : ℕ) (small large : Machine) (start other_start : ℕ)

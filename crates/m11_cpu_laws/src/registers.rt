@@ -21,11 +21,11 @@ ghost use Rattle.m11_cpu_laws.specs.Writes.{MakesSteps};
 
 /// All registers stay unchanged except the following. Fetching a word changes at most the program counter. An instruction, even an aborted
 /// one, changes at most the program counter; the registers that the modes of its operands increment or decrement; a register that it stores
-/// to; for MUL, DIV and ASHC, R and the register whose number is R's with the lowest bit set, and for ASH, R; for SOB, its register; for
-/// JSR and RTS, the register and the stack pointer; for MARK, register 5 and the stack pointer; and for RTI and RTT, the stack pointer. A
-/// trap changes at most the program counter and the stack pointer. A step changes at most what its instruction changes, even if that is
-/// aborted, and then the program counter and the stack pointer if a trap follows, including the trace trap. (PDP-11/40 Processor Handbook,
-/// "Addressing modes", "Instruction set".)
+/// to; for MUL, DIV and ASHC, their register R and the register whose number is R's with the lowest bit set; for ASH and SOB, their
+/// register; for JSR and RTS, the register and the stack pointer; for MARK, register 5 and the stack pointer; and for RTI and RTT, the
+/// stack pointer. A trap changes at most the program counter and the stack pointer. A step changes at most what its instruction changes,
+/// even if that is aborted, and then the program counter and the stack pointer if a trap follows, including the trace trap. (PDP-11/40
+/// Processor Handbook, "Addressing modes", "Instruction set".)
 #[tactic(auto, using(crate::proofs::StepsKeepRegisters::execute_stays, crate::proofs::StepsKeepRegisters::trap_stays, crate::proofs::StepsKeepRegisters::step_stays, crate::proofs::StepsKeepRegisters::fetch_stays))]
 pub fn registers_stay()
     ensures fetch { (m m' : Machine) (came : Result ℕ Abort) (exchanges : List Exchange)
@@ -38,9 +38,9 @@ pub fn registers_stay()
         → Leads (step m) exchanges (turn, m') → StepRegisters m exchanges m' }
 {}
 
-/// An odd register serves as both words of its pair. MUL leaves the low word of the product in it; DIV uses it as both words of
-/// the dividend and leaves the remainder, or leaves the register unchanged if the division is refused; ASHC shifts both words
-/// together, each of which is this register, and leaves the low word. The laws of m11_cpu_arithmetic say what these words are.
+/// An odd register serves as both words of its pair. MUL leaves the low word of the product in it. DIV uses it as both words of
+/// the dividend and leaves the remainder in it, or leaves it unchanged if the division is refused. ASHC shifts both words
+/// together, each of which is this register, and leaves the low word in it. The laws of m11_cpu_arithmetic say what these words are.
 /// (PDP-11/40 Processor Handbook, "Extended instruction set".)
 #[tactic(auto, using(crate::proofs::BothWords::odd_registers))]
 pub fn odd_registers_are_both_words()

@@ -34,19 +34,19 @@ unfolding Happened
 happened_after old middle new [] fs e h = let P : Devices → Type 0 = λ d. Happened d new fs in subst P e h
 happened_after old middle new (e ∷ es) fs h k = (h.0, h.1, happened_after h.0 middle new es fs h.2 k)
 
--- a value at once
+-- a dialogue that yields a value at once does so without any exchange
 pub comes : {A : Type 0} (d : Devices) (x y : A) → y ≡ x → Does (Comes x) d d y
 unfolding Leads Happened
 comes d x y e = record { exchanges = []; leads = e; happened = refl }
 
--- an abort that goes on as it is
+-- if a call returned an abort, yielding the abort needs no exchange
 pub comes_aborted : {A E S : Type 0} (d : Devices) (r : Result A E) (e : E) (m : S) → IsErrAnd r (λ f. f ≡ e)
     → Does {A = Result A E × S} (Comes (Err e, m)) d d (r, m)
 comes_aborted d (Ok x) e m h = absurd h
 comes_aborted {A = A} {E = E} {S = S} d (Err f) e m h =
     let to : E → Result A E × S = λ x. (Err x, m) in comes d _ _ (ap to h)
 
--- one after the other
+-- if a dialogue yields x, and the next dialogue for x yields y, the two in sequence yield y
 pub then_does : {A B : Type 0} (m : Dialogue A) (next : A → Dialogue B) (old middle new : Devices) (x : A) (y : B)
     → Does m old middle x → Does (next x) middle new y → Does (after m next) old new y
 then_does m next old middle new x y h k = record {
@@ -55,7 +55,7 @@ then_does m next old middle new x y h k = record {
   happened = happened_after old middle new h.exchanges k.exchanges h.happened k.happened;
 }
 
--- at a choice
+-- a choice does what the first dialogue does if the test is true, and what the second does if it is false
 pub if_so : {A : Type 0} (test : Bool) (a b : Dialogue A) (old new : Devices) (y : A) → test ≡ true → Does a old new y
     → Does (cond test a b) old new y
 if_so test a b old new y e h = let P : Bool → Type 0 = λ t. Does (cond t a b) old new y in subst P (sym e) h
@@ -64,7 +64,7 @@ pub if_not : {A : Type 0} (test : Bool) (a b : Dialogue A) (old new : Devices) (
     → Does (cond test a b) old new y
 if_not test a b old new y e h = let P : Bool → Type 0 = λ t. Does (cond t a b) old new y in subst P (sym e) h
 
--- the same, if a call has returned the test
+-- the same if a call has returned the value of the test
 pub if_so_by : {A : Type 0} (found test : Bool) (a b : Dialogue A) (old new : Devices) (y : A) → found ≡ test
     → found ≡ true → Does a old new y → Does (cond test a b) old new y
 if_so_by found test a b old new y f e h = if_so test a b old new y (sym f ∙ e) h
@@ -73,7 +73,7 @@ pub if_not_by : {A : Type 0} (found test : Bool) (a b : Dialogue A) (old new : D
     → found ≡ false → Does b old new y → Does (cond test a b) old new y
 if_not_by found test a b old new y f e h = if_not test a b old new y (sym f ∙ e) h
 
--- what a reply leads to
+-- a dialogue that asks for a byte or sends one does what the dialogue for the device's reply does
 pub asks : {A : Type 0} (by : Reply → Dialogue A) (i i' : Input) (new : Devices) (y : A) (reply : Reply)
     → Replies i i' reply → Does (by reply) (record { input = Some i'; output = None }) new y
     → Does (Asks by) (record { input = Some i; output = None }) new y
@@ -94,21 +94,21 @@ sends byte by o o' new y taken t k = record {
   happened = (record { input = None; output = Some o' }, (t, refl), k.happened);
 }
 
--- a byte that is sent, if a call has returned whether it was taken
+-- a dialogue whose only exchange sends a byte yields what follows the output's reply, which a call has returned
 pub sends_at_once : {A : Type 0} (byte : ℕ) (by : Bool → Dialogue A) (o o' : Output) (y : A) (taken : Bool)
     → DialogueTakes o o' byte taken
     → Does (by taken) (record { input = None; output = Some o' }) (record { input = None; output = Some o' }) y
     → Does (Sends byte by) (record { input = None; output = Some o }) (record { input = None; output = Some o' }) y
 sends_at_once byte by o o' y taken t k = sends byte by o o' _ y taken t k
 
--- a put of one byte takes it, or nothing
+-- if one byte is put, the output accepts it if the count is 1, and nothing if the count is 0
 pub takes_by_count : (o o' : Output) (byte count : ℕ) → count ≤ 1 → Appends o.text o'.text (take count (byte ∷ []))
     → CountsAt o.faults o'.faults count 1 → DialogueTakes o o' byte (not (count == 0))
 takes_by_count o o' byte zero le a c = (a, c)
 takes_by_count o o' byte (suc zero) le a c = (a, c)
 takes_by_count o o' byte (suc (suc n)) le a c = absurd (omega arith)
 
--- ---- with one more device, which has no part
+-- ---- with one more device, which takes no part
 
 happened_beside_output : (old new : Option Input) (o : Option Output) (es : List Exchange)
     → Happened (record { input = old; output = None }) (record { input = new; output = None }) es
@@ -182,7 +182,7 @@ pub bind_aborts : {A B : Type 0} (act : Act A) (next : A → Act B) (m m' : Mach
 unfolding ◌>>=◌
 bind_aborts act next m m' old new e r h k = then_does (act m) _ old new new (Err e, m') _ h (comes_aborted new r e m' k)
 
--- an act that works on one device, before one that has both
+-- an act that uses one device, followed by an act with both devices, is one act with both devices
 pub bind_reads : {A B : Type 0} (act : Act A) (next : A → Act B) (m m' : Machine) (i i' : Option Input)
     (o : Option Output) (new : Devices) (x : A) (y : Result B Abort × Machine)
     → Does (act m) (record { input = i; output = None }) (record { input = i'; output = None }) (Ok x, m')
@@ -215,24 +215,24 @@ pub bind_writes_aborts : {A B : Type 0} (act : Act A) (next : A → Act B) (m m'
 bind_writes_aborts act next m m' i o o' e r h k =
     bind_aborts act next m m' _ _ e r (writes_beside (act m) i o o' _ h) k
 
--- ---- an act by what a call has computed
+-- ---- acts on values that a call has computed
 
--- an act on a value that is known to equal another one
+-- an act does the same on equal values
 pub act_by : {A B : Type 0} (act : A → Act B) (x x' : A) (m : Machine) (old new : Devices)
     (y : Result B Abort × Machine) → x ≡ x' → Does (act x' m) old new y → Does (act x m) old new y
 act_by {A = A} act x x' m old new y e h = let P : A → Type 0 = λ v. Does (act v m) old new y in subst P (sym e) h
 
--- an act at a machine that a call has left
+-- an act does the same on a machine that equals the one that a call left
 pub at_machine : {A : Type 0} (act : Act A) (m m' : Machine) (old new : Devices) (y : Result A Abort × Machine)
     → m' ≡ m → Does (act m') old new y → Does (act m) old new y
 at_machine act m m' old new y e h = let P : Machine → Type 0 = λ n. Does (act n) old new y in subst P e h
 
--- an act where a step of a register has led
+-- an act does the same on an equal address and machine, as a step of a register yields them
 pub at_pair : {B : Type 0} (act : ℕ → Act B) (to came : ℕ × Machine) (old new : Devices)
     (y : Result B Abort × Machine) → came ≡ to → Does (act came.0 came.1) old new y → Does (act to.0 to.1) old new y
 at_pair act to came old new y e h = let P : ℕ × Machine → Type 0 = λ x. Does (act x.0 x.1) old new y in subst P e h
 
--- the location in memory where a step of a register has led
+-- the location at the address that a step of a register yields is found without any exchange
 pub stepped_comes : (d : Devices) (to came : ℕ × Machine) → came ≡ to
     → Does (in_memory to to.1) d d (Ok (InMemory came.0), came.1)
 stepped_comes d to came e =
@@ -254,7 +254,7 @@ pub change_exclusive_at : (source source' : ℕ) (location : OperandLocation) (m
 change_exclusive_at source source' location m old new y e h =
     let P : ℕ → Type 0 = λ x. Does (change_exclusive x location m) old new y in subst P e h
 
--- for calls of one device, and for calls of both
+-- the rules for calls with one device, and for calls with both
 pub ruleset dialogues = (
   store_result_at,
   push_at,

@@ -1,4 +1,4 @@
--- A register that is put and read again.
+-- A register that is stored and then read.
 use Rattle.std.proofs.Common.{◌≡◌, ℕ, ◌<◌, length, arith}
 use Rattle.std.proofs.lemmas.List.{get_or-set_same}
 use Rattle.m11_base.specs.Operand.{register_number}

@@ -1,4 +1,4 @@
--- What traps and steps yield, exit by exit.
+-- What traps and steps yield, for each way in which they end.
 use Rattle.std.proofs.Common.{◌≡◌, Option, Some, None, Result, Ok, Err, sym, subst, ap, ◌∙◌}
 use Rattle.m11_base.specs.declared.instruction.Insn.{Insn}
 use Rattle.m11_cpu_machine.specs.declared.abort.Abort.{Abort}

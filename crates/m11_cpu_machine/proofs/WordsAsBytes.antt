@@ -26,7 +26,7 @@ high_byte [] i = refl
 high_byte (w ∷ ws) zero = refl
 high_byte (w ∷ ws) (suc i) = let e : 2 * suc i + 1 ≡ suc (suc (2 * i + 1)) = omega arith in rw e (high_byte ws i)
 
--- a word put in, as its two bytes
+-- storing a word in the vector stores its two bytes
 pub word_set : (words : List ℕ) (i v : ℕ)
     → bytes_of (slice_set words i v) ≡ slice_set (slice_set (bytes_of words) (2 * i) (v % 256)) (2 * i + 1) (v / 256)
 word_set [] i v = refl
@@ -58,7 +58,7 @@ put_word words a v even =
     let e : 2 * (a / 2) ≡ a = omega arith in
     word_set words (a / 2) v ∙ ap (λ (k : ℕ). slice_set (slice_set (bytes_of words) k (v % 256)) (k + 1) (v / 256)) e
 
--- the low byte of a word put in, and the high one
+-- storing a word with a new low byte stores that byte alone, and likewise for the high byte
 low_set : (words : List ℕ) (i v : ℕ) → v < 256
     → bytes_of (slice_set words i (slice_index_or words i 0 / 256 * 256 + v)) ≡ slice_set (bytes_of words) (2 * i) v
 low_set [] i v fits = refl
@@ -100,11 +100,11 @@ put_high words a i w v odd index inside word =
     ∙ high_set words i v
     ∙ ap (λ (k : ℕ). slice_set (bytes_of words) k v) e
 
--- a word put in leaves the number of bytes
+-- storing a word leaves the number of bytes unchanged
 pub size_stays : (words : List ℕ) (i v : ℕ) → length (bytes_of (slice_set words i v)) ≡ length (bytes_of words)
 size_stays words i v = omega (arith, length_of_bytes (slice_set words i v), length_of_bytes words, length-set words i v)
 
--- an address that is turned by one place is the index of a word exactly if it is even and inside
+-- an address rotated right by one bit is the index of a word if and only if the address is even and inside memory
 pub word_inside : (words : List ℕ) (a : ℕ) → length words ≤ most_words
     → nat_lt (a / 2 + a % 2 * 0o100000) (length words) ≡ (not (a % 2 == 1) && nat_lt a (length (bytes_of words)))
 word_inside words a most = grind (arith, nat_tests, length_of_bytes words, most)

@@ -1,6 +1,6 @@
--- Reading and writing at an address: the memory, the console's four registers, and the processor status word. (PDP-11/40
--- Processor Handbook, "Addressing", "Processor traps"; SIMH PDP-11 manual, console terminal. Two things are this project's own:
--- that the data register of the transmitter reads as 0, and that no address past the end of memory has any other register.)
+-- Reading and writing at an address: the memory, the console's four registers, and the processor status word. (PDP-11/40 Processor
+-- Handbook, "Addressing", "Processor traps"; SIMH PDP-11 manual, console terminal. Two things are this project's own: that the
+-- transmitter's buffer reads as 0, and that no address past the end of memory has any other register.)
 use Rattle.std.specs.Prelude.{ℕ, ◌-◌, ◌/◌, ◌%◌, ◌==◌, Bool, true, false, nat_lt, if◌then◌else◌, length, Option, Some, None, Result, Ok, Err}
 use Rattle.m11_cpu_machine.specs.declared.abort.Abort.{Abort}
 use Rattle.m11_cpu_machine.specs.declared.abort.Abort.TheVariants.{Traps, Stops}
@@ -21,7 +21,7 @@ is_odd address = address % 2 == 1
 abbrev pub is_inside : ℕ → Machine → Bool
 is_inside address m = nat_lt address (length m.memory)
 
--- the effect of the input's reply: a byte is kept in the receiver and sets done, the end is remembered, a failure stops the machine
+-- the effect of the input's reply: a byte is stored in the receiver and sets done, the end is recorded, and a failure stops the machine
 abbrev pub received : Reply → Act (Unit {0})
 received (Gives byte) m = Comes (Ok tt, record m { receiver = record m.receiver { byte = byte; is_done = true } })
 received Ends m = Comes (Ok tt, record m { receiver = record m.receiver { has_ended = true } })
@@ -85,8 +85,9 @@ send byte m = Sends byte (λ taken. sent taken m)
 abbrev pub is_enabling : ℕ → Bool
 is_enabling value = value / 0o100 % 2 == 1
 
--- the effect of a write to a device register: a status of the console stores bit 6, the receiver's data nothing, the transmitter's data
--- sends the low byte, the processor status keeps its T; a bus error if there is no register
+-- the effect of a write to a device register: a status register of the console stores only bit 6, the receiver's buffer ignores the write,
+-- the transmitter's buffer sends the low byte, and the processor status becomes the low byte, but keeps its T; a bus error if there is no
+-- register
 abbrev pub store_register : Option DeviceRegister → ℕ → Act (Unit {0})
 store_register (Some ReceiverStatus) value m =
     Comes (Ok tt, record m { receiver = record m.receiver { is_enabled = is_enabling value } })

@@ -75,7 +75,7 @@ fetch_operand operand size = location_of operand size >>= λ location. fetch loc
 abbrev pub without_low_byte : ℕ → ℕ
 without_low_byte word = word / 256 * 256
 
--- a word or a byte is stored in a location; a byte stored in a register replaces only its low byte
+-- a word or a byte is stored in a location; a byte stored in a register replaces only the register's low byte
 unfoldable pub store : OperandLocation → Size → ℕ → Act (Unit {0})
 store (InRegister register) Word value m = Comes (Ok tt, with_register register value m)
 store (InRegister register) Byte value m =

@@ -1,5 +1,5 @@
 -- The console, and the addresses of all device registers. The console has a receiver, which holds the last byte that arrived, and a
--- transmitter, which is always ready. Each has a status register and a data register. (SIMH PDP-11 manual, console terminal.)
+-- transmitter, which is always ready. Each has a status register and a buffer. (SIMH PDP-11 manual, console terminal.)
 use Rattle.std.specs.Prelude.{ℕ, ◌+◌, ◌*◌, ◌==◌, Bool, not, ◌&&◌, if◌then◌else◌, Option, Some, None}
 use Rattle.m11_cpu_machine.specs.declared.console.DeviceRegister.{DeviceRegister}
 use Rattle.m11_cpu_machine.specs.declared.console.DeviceRegister.TheVariants.{ReceiverStatus, ReceiverBuffer, TransmitterStatus, TransmitterBuffer, ProcessorStatus}

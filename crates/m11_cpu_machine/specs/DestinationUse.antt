@@ -17,7 +17,7 @@ use_by_double Bis = Changes
 use_by_double Add = Changes
 use_by_double Sub = Changes
 
--- none for JMP, which only jumps to its operand
+-- what a single operand operation does with its operand; None for JMP, which only jumps there
 abbrev pub use_by_single : SingleOp → Option DestinationUse
 use_by_single Jmp = None
 use_by_single Clr = Some Writes

@@ -18,7 +18,7 @@ pub data Dialogue (A : Type 0) : Type 0 where
   Asks : (Reply → Dialogue A) → Dialogue A
   Sends : ℕ → (Bool → Dialogue A) → Dialogue A
 
--- a dialogue, and then the one that its value determines
+-- a dialogue, followed by the dialogue that its value determines
 abbrev pub after : {A B : Type 0} → Dialogue A → (A → Dialogue B) → Dialogue B
 after (Comes x) next = next x
 after (Asks by) next = Asks (λ reply. after (by reply) next)

@@ -23,7 +23,7 @@ use Rattle.m11_cpu_machine.specs.declared.addressing.OperandLocation.TheVariants
 abbrev pub sign_extended : ℕ → ℕ
 sign_extended byte = if nat_lt (byte % 0o400) 0o200 then byte % 0o400 else byte % 0o400 + 0o177400
 
--- a byte that MOVB stores in a register is sign-extended to a word
+-- MOV stores a word, and MOVB a byte, in a location; a byte that MOVB stores in a register is sign-extended to a word
 unfoldable pub store_moved : OperandLocation → Size → ℕ → Act (Unit {0})
 store_moved (InRegister register) Word value m = store (InRegister register) Word value m
 store_moved (InRegister register) Byte value m = Comes (Ok tt, with_register register (sign_extended value) m)

@@ -33,7 +33,7 @@ unfoldable pub return_from_trap : Act (Unit {0})
 return_from_trap = pop >>= λ address m.
     (pop >>= λ bits n. Comes (Ok tt, record n { status = status_of bits })) (with_register Pc address m)
 
--- RESET clears bit 6, interrupt enable, in both statuses of the console
+-- RESET clears bit 6, interrupt enable, in both status registers of the console
 abbrev pub reset : Machine → Machine
 reset m = record m {
   receiver = record m.receiver { is_enabled = false };

@@ -44,7 +44,7 @@ pop m = load_word (forward Sp 2 m).0 (forward Sp 2 m).1
 
 -- ---- jumps
 
--- a register has no address: JMP and JSR then trap as reserved instructions do
+-- the address of a location in memory; a register has no address, so JMP and JSR to one trap as reserved instructions do
 abbrev pub address_of : OperandLocation → Act ℕ
 address_of (InRegister register) m = Comes (Err (Traps Reserved), m)
 address_of (InMemory address) m = Comes (Ok address, m)

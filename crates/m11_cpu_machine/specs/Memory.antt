@@ -1,5 +1,5 @@
--- Memory: bytes, each at its address from 0 on. A word has its low byte at an even address and its high byte
--- at the next one. (PDP-11/40 Processor Handbook, "Memory organization".)
+-- Memory: bytes, whose addresses count up from 0. A word has its low byte at an even address and its high byte at the next one. (PDP-11/40
+-- Processor Handbook, "Memory organization".)
 use Rattle.std.specs.Prelude.{ℕ, ◌+◌, ◌*◌, ◌/◌, ◌%◌, List, [], ◌∷◌, slice_index_or, slice_set}
 use Rattle.m11_base.specs.Devices.{Bytes}
 
@@ -27,7 +27,7 @@ with_byte address value memory = slice_set memory address value
 abbrev pub with_word : ℕ → ℕ → Bytes → Bytes
 with_word address value memory = with_byte (address + 1) (value / 256) (with_byte address (value % 256) memory)
 
--- the bytes of words, one after another from address 0 on
+-- the bytes of these words, in order: of each word the low byte and then the high byte
 abbrev pub bytes_of : List ℕ → Bytes
 bytes_of [] = []
 bytes_of (word ∷ words) = word % 256 ∷ word / 256 ∷ bytes_of words

@@ -19,7 +19,7 @@ status_written bits old = record (status_of bits) { trace = old.trace }
 abbrev pub bit : Bool → ℕ
 bit b = cond b 1 0
 
--- the word of a status
+-- the status as a word
 abbrev pub psw_of : ProcessorStatus → ℕ
 psw_of status = status.priority % 0o10 * 0o40 + bit status.trace * 0o20 + bit status.codes.negative * 0o10
     + bit status.codes.zero * 4 + bit status.codes.overflow * 2 + bit status.codes.carry

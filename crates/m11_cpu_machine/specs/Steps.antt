@@ -1,5 +1,5 @@
 -- Steps: one instruction each, with its traps. (PDP-11/40 Processor Handbook, "Processor traps", "Trace trap". This project's own:
--- the T that the instruction leaves, and not the one before it, decides whether a trace trap follows.)
+-- the T that the instruction leaves, and not the T before the instruction, decides whether a trace trap follows.)
 use Rattle.std.specs.Prelude.{Option, Some, None, Result, Ok, Err, if◌then◌else◌}
 use Rattle.m11_base.specs.Instructions.{instruction_of}
 use Rattle.m11_cpu_machine.specs.Acts.{Act, ◌>>=◌}
@@ -23,7 +23,7 @@ use Rattle.m11_cpu_machine.specs.declared.stop.Turn.TheVariants.{Next, Stopped}
 unfoldable pub instruction : Act Ending
 instruction = next_word >>= λ word. execute (instruction_of word)
 
--- the turn after an instruction that was completed: a trace trap if T is set, otherwise the next instruction
+-- the turn after a completed instruction that isn't RTT, HALT or WAIT: a trace trap if T is set, otherwise the next instruction
 unfoldable pub ended : Machine → Dialogue (Turn × Machine)
 ended m = if m.status.trace then trap Breakpoint m else Comes (Next, m)
 

@@ -6,7 +6,7 @@ use Rattle.m11_cpu_machine.specs.declared.stop.LastingStop.TheVariants as lastin
 use Rattle.m11_cpu_machine.specs.declared.stop.Stop.{Stop}
 use Rattle.m11_cpu_machine.specs.declared.stop.Stop.TheVariants.{Halt, Limit, Wait, StackFault, NoStart, InputFault, OutputFault}
 
--- a lasting stop as one of all the stops of a run
+-- a lasting stop as a `Stop`
 abbrev pub stop_of : LastingStop → Stop
 stop_of lasting.StackFault = StackFault
 stop_of lasting.InputFault = InputFault

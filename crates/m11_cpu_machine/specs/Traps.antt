@@ -41,8 +41,8 @@ stopped_by stop m = (Stopped (stop_of stop), record m { stopped = Some stop })
 unfoldable pub push_state : Act (Unit {0})
 push_state m = (push (psw_of m.status) >>= λ _ n. push (register_of Pc n) n) m
 
--- the vector is read after the pushes, which may have overwritten it; a push that would trap stops the machine with a stack fault, and
--- one that stops does so with its own stop
+-- the vector is read after the pushes, which may have overwritten it; if a push would trap, the machine stops with STACK FAULT; if the
+-- output fails at a push, the machine stops with OUTPUT FAULT
 abbrev pub trap_pushed : Vector → Result (Unit {0}) Abort → Machine → Dialogue (Turn × Machine)
 trap_pushed vector (Ok done) m = Comes (Next, vectored vector m)
 trap_pushed vector (Err (Traps other)) m = Comes (stopped_by StackFault m)

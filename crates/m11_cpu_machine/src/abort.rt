@@ -2,7 +2,7 @@
 
 use crate::stop::LastingStop;
 
-/// A trap vector, by its address: the word there is the trap's program counter, the next one its processor status.
+/// A trap vector, by its address: the word there is the trap's program counter, and the next word is the trap's processor status.
 #[derive(Clone, Copy)]
 pub enum Vector {
     /// An access to an address that has neither memory nor a device register, or to a word at an odd address.

@@ -70,8 +70,8 @@ impl Machine {
         }
     }
 
-    // The status of the receiver. If it has no unread byte and the input has not ended, the input is asked for one first; if that fails,
-    // the machine stops.
+    // The status of the receiver. If the receiver has no unread byte and the input has not ended, the input is asked for a byte first; if
+    // the input fails, the machine stops.
     fn receiver_status<F: Feed>(&mut self, feed: &mut F) -> Result<u16, Abort>
         ensures does { Does (receiver_status self.old) (input_alone (F.text feed.old) (F.faults feed.old))
             (input_alone (F.text feed.new) (F.faults feed.new)) (result, self.new) }
@@ -84,8 +84,8 @@ impl Machine {
         Ok(self.receiver.status())
     }
 
-    // Asks the input for one byte. If a byte comes, the receiver keeps it and sets done; if the input has ended, that is remembered, and
-    // the input isn't asked again; if the input fails, the machine stops.
+    // Asks the input for one byte. If a byte comes, it is stored in the receiver, and done is set; if the input has ended, that is
+    // recorded, and the input isn't asked again; if the input fails, the machine stops.
     #[tactic(auto, using(crate::proofs::Dialogues::dialogues), unfolding(crate::specs::Access::receive))]
     fn receive<F: Feed>(&mut self, feed: &mut F) -> Result<(), Abort>
         ensures { Does (receive self.old) (input_alone (F.text feed.old) (F.faults feed.old))
@@ -163,9 +163,9 @@ impl Machine {
         self.store_device(address, u16::from(value), sink)
     }
 
-    // Stores a word in the device register at an even address past the end of memory; traps through 4 if there is none. Of the console's
-    // two statuses only bit 6 is stored, the receiver's buffer ignores writes, the transmitter's buffer sends the low byte, and
-    // the processor status keeps its T.
+    // Stores a word in the device register at an even address past the end of memory; traps through 4 if there is none. In the console's
+    // two status registers only bit 6 is stored, the receiver's buffer ignores writes, the transmitter's buffer sends the low byte, and
+    // the processor status becomes the low byte, but keeps its T. Stops if the output failed or accepted nothing.
     #[tactic(auto, using(crate::proofs::Dialogues::dialogues), unfolding(crate::specs::Access::store_device))]
     #[cold]
     #[inline(never)]

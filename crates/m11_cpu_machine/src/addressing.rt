@@ -71,8 +71,8 @@ impl Machine {
         Ok(OperandLocation::InMemory(self.load_word(address, feed)?))
     }
 
-    // The address of modes 6 and 7: the next word of the program plus the register, modulo octal 200000. The word is read first, so
-    // if the register is PC, it has already stepped past the word.
+    // The next word of the program plus the register, modulo octal 200000: the effective address in mode 6, and the address of a pointer
+    // in mode 7. The word is read first, so if the register is PC, it has already stepped past the word.
     #[inline(always)]
     fn indexed<F: Feed>(&mut self, register: Register, feed: &mut F) -> Result<u16, Abort>
         ensures { Does (indexed register self.old) (input_alone (F.text feed.old) (F.faults feed.old))
@@ -82,7 +82,7 @@ impl Machine {
         Ok(index.wrapping_add(self.register(register)))
     }
 
-    /// The word at the program counter, which steps past the word once it is read, and is unchanged if the read traps or stops.
+    /// Reads the word at the program counter. The program counter then steps past the word, but is unchanged if the read traps or stops.
     #[inline(always)]
     pub(crate) fn next_word<F: Feed>(&mut self, feed: &mut F) -> Result<u16, Abort>
         ensures { Does (next_word self.old) (input_alone (F.text feed.old) (F.faults feed.old))
@@ -114,7 +114,7 @@ impl Machine {
         value
     }
 
-    /// The content of a location: a word, or a byte below 256. A byte in a register is its low byte.
+    /// The content of a location: a word, or a byte below 256. The byte in a register is the register's low byte.
     #[tactic(auto, using(crate::proofs::Dialogues::dialogues), unfolding(crate::specs::Addressing::fetch))]
     #[inline(always)]
     pub(crate) fn fetch<F: Feed>(

@@ -62,7 +62,7 @@ impl Receiver {
         !self.is_done && !self.has_ended
     }
 
-    /// Its status: bit 7 is set if a byte has arrived and hasn't been read, bit 6 if interrupts are enabled.
+    /// The receiver's status: bit 7 is set if a byte has arrived and hasn't been read, bit 6 if interrupts are enabled.
     pub fn status(self) -> u16
         ensures bits { result ≡ receiver_bits self }
         ensures byte { result < 256 }
@@ -72,7 +72,7 @@ impl Receiver {
 }
 
 impl Transmitter {
-    /// Its status: bit 7 is always set, bit 6 if interrupts are enabled.
+    /// The transmitter's status: bit 7 is always set, bit 6 if interrupts are enabled.
     pub fn status(self) -> u16
         ensures bits { result ≡ transmitter_bits self }
         ensures byte { result < 256 }

@@ -60,7 +60,7 @@ impl Machine {
         Ok(Ending::Next)
     }
 
-    // JSR and XOR.
+    // Executes JSR or XOR.
     #[tactic(auto, using(crate::proofs::Dialogues::with_both), unfolding(crate::specs::Execution::on_register))]
     fn on_register<F: Feed, S: Sink>(
         &mut self,
@@ -79,7 +79,7 @@ impl Machine {
         }
     }
 
-    // MARK, EMT and TRAP.
+    // Executes MARK, EMT or TRAP.
     #[tactic(auto, using(crate::proofs::Dialogues::dialogues), unfolding(crate::specs::Execution::numbered))]
     fn numbered<F: Feed>(
         &mut self,
@@ -97,7 +97,7 @@ impl Machine {
         }
     }
 
-    // The instructions whose code has no fields: HALT, WAIT, RTI, RTT, BPT, IOT and RESET.
+    // Executes an instruction whose code has no fields: HALT, WAIT, RTI, RTT, BPT, IOT or RESET.
     fn bare<F: Feed>(&mut self, operation: BareOp, feed: &mut F) -> Result<Ending, Abort>
         ensures { Does (bare operation self.old) (input_alone (F.text feed.old) (F.faults feed.old))
             (input_alone (F.text feed.new) (F.faults feed.new)) (result, self.new) }
@@ -134,7 +134,7 @@ impl Machine {
         Ok(())
     }
 
-    // RESET clears bit 6, interrupt enable, in both statuses of the console.
+    // RESET clears bit 6, interrupt enable, in both status registers of the console.
     fn reset(&mut self)
         ensures { self.new ≡ reset self.old }
     {

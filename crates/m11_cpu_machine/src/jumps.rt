@@ -11,7 +11,7 @@ use m11_base::{BranchOp, Feed, Operand, Register, Sink, Size};
 use m11_cpu_arithmetic::is_taken;
 
 impl Machine {
-    /// A branch: if it is taken, the program counter moves by this many words, backwards if negative.
+    /// A branch: if it is taken, the program counter moves by this many words, backwards if the number is negative.
     #[inline(always)]
     pub(crate) fn branch(&mut self, operation: BranchOp, words: i8)
         ensures { self.new ≡ branched operation words self.old }
@@ -43,7 +43,7 @@ impl Machine {
         Ok(())
     }
 
-    // The effective address of the operand of JMP or JSR. A register has none: it traps through 10.
+    // The effective address of the operand of JMP or JSR. A register has none, so such an operand traps through 10.
     fn target<F: Feed>(&mut self, operand: Operand, feed: &mut F) -> Result<u16, Abort>
         ensures { Does (target operand self.old) (input_alone (F.text feed.old) (F.faults feed.old))
             (input_alone (F.text feed.new) (F.faults feed.new)) (result, self.new) }
@@ -111,7 +111,7 @@ impl Machine {
         Ok(())
     }
 
-    /// Pushes a word onto the stack. The stack pointer steps before the word is stored, and stays stepped if that traps or stops.
+    /// Pushes a word onto the stack. The stack pointer steps before the word is stored, and stays stepped if the store traps or stops.
     #[tactic(auto, using(crate::proofs::Dialogues::dialogues), unfolding(crate::specs::Jumps::push))]
     pub(crate) fn push<S: Sink>(&mut self, value: u16, sink: &mut S) -> Result<(), Abort>
         ensures { Does (push value self.old) (output_alone (S.text sink.old) (S.faults sink.old))
@@ -121,7 +121,7 @@ impl Machine {
         self.store_word(address, value, sink)
     }
 
-    /// Pops a word from the stack. The stack pointer steps before the word is read, and stays stepped if that traps or stops.
+    /// Pops a word from the stack. The stack pointer steps before the word is read, and stays stepped if the read traps or stops.
     #[tactic(auto, using(crate::proofs::Dialogues::dialogues), unfolding(crate::specs::Jumps::pop))]
     pub(crate) fn pop<F: Feed>(&mut self, feed: &mut F) -> Result<u16, Abort>
         ensures { Does (pop self.old) (input_alone (F.text feed.old) (F.faults feed.old))

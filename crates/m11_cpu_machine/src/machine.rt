@@ -17,7 +17,7 @@ use std::alloc::{AllocError, Global};
 /// A PDP-11/40 with its memory and its console.
 #[derive(Drop)]
 pub struct Machine {
-    /// The bytes at the addresses from 0 on.
+    /// The bytes of memory, in the order of their addresses, which begin at 0.
     pub memory: Memory,
     /// R0 to R5, SP and PC.
     pub registers: [u16; 8],
@@ -27,7 +27,7 @@ pub struct Machine {
     pub receiver: Receiver,
     /// The console's printer.
     pub transmitter: Transmitter,
-    /// The lasting stop after which no more steps are made; None while the machine can go on.
+    /// The lasting stop that each further step returns; None while the machine can go on.
     pub stopped: Option<LastingStop>,
 }
 
@@ -56,8 +56,8 @@ impl Machine {
         })
     }
 
-    /// Sets the program counter to any address. If that is odd, or has neither memory nor a device register, the next step of a machine
-    /// that isn't stopped traps through 4.
+    /// Sets the program counter to any address. If the address is odd, or has neither memory nor a device register, the next step traps
+    /// through 4, unless the machine has a lasting stop.
     pub fn start_at(&mut self, address: u16)
         ensures { self.new ≡ with_register Pc address self.old }
     {
@@ -95,7 +95,8 @@ impl Machine {
         self.memory.byte(address)
     }
 
-    /// Sets a register to any word. If that makes the program counter odd, the next step of a machine that isn't stopped traps through 4.
+    /// Sets a register to any word. If that makes the program counter odd, the next step traps through 4, unless the machine has a lasting
+    /// stop.
     #[inline(always)]
     pub fn set_register(&mut self, register: Register, value: u16)
         ensures { self.new ≡ with_register register value self.old }
@@ -135,8 +136,8 @@ impl Machine {
         self.status.codes.carry = codes.carry;
     }
 
-    /// Sets the condition codes of an instruction that has stored its result in this location. If that is the processor status
-    /// word, it stays as it was written.
+    /// Sets the condition codes of an instruction that has stored its result in this location. If the location is the processor
+    /// status word, the codes aren't set, and the word stays as it was written.
     #[inline(always)]
     pub fn set_codes_after_store(&mut self, location: OperandLocation, codes: ConditionCodes)
         ensures { self.new ≡ finished location codes self.old }

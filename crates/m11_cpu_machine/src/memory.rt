@@ -6,8 +6,8 @@ ghost use Rattle.m11_cpu_machine.specs.Memory.{most_words, byte_at, word_at, wit
 use std::alloc::{AllocError, Global};
 use std::marker::Model;
 
-/// The memory of a machine, from address 0 on: each word has its low byte at an even address and its
-/// high byte at the next one. The number of words never changes.
+/// The memory of a machine, which begins at address 0. Each word has its low byte at an even address and its high byte at the next one. The
+/// number of words never changes.
 #[derive(Drop)]
 pub struct Memory {
     words: Vec<u16>,
@@ -26,7 +26,7 @@ impl Model for Memory {
 }
 
 impl Memory {
-    /// A memory of this many words, at most 28,672, all 0. The addresses from octal 160000 on are those of devices.
+    /// A memory of this many words, at most 28,672, all 0. Octal 160000 and the addresses above it are those of devices.
     ///
     /// Error: memory was refused.
     #[tactic(auto, using(crate::proofs::WordsAsBytes::bytes_of_none))]
@@ -57,7 +57,7 @@ impl Memory {
         usize::from(turned(address)) < self.words.len()
     }
 
-    /// The word at an address; None if that is odd or past the end of memory.
+    /// The word at an address; None if the address is odd or past the end of memory.
     #[tactic(auto, using(crate::proofs::WordsAsBytes::word_inside, crate::proofs::WordsAsBytes::whole_word))]
     #[inline(always)]
     pub fn word_at(&self, address: u16) -> Option<u16>

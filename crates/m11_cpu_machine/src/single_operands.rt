@@ -10,7 +10,7 @@ use crate::machine::Machine;
 use m11_base::{Feed, Operand, SingleOp, Sink, Size};
 
 impl Machine {
-    /// Executes a single operand instruction, JMP among them.
+    /// Executes a single operand instruction; JMP is one of them.
     #[tactic(auto, using(crate::proofs::Dialogues::with_both), unfolding(crate::specs::SingleOperands::single))]
     #[inline(always)]
     pub(crate) fn single<F: Feed, S: Sink>(
@@ -87,7 +87,7 @@ impl Machine {
         self.change_at(operation, size, location, feed, sink)
     }
 
-    // Reads a location and replaces its content by the result of the operation.
+    // Reads a location and replaces its content with the result of the operation.
     #[inline(always)]
     fn change_at<F: Feed, S: Sink>(
         &mut self,

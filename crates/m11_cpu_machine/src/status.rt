@@ -8,7 +8,7 @@ use m11_base::ConditionCodes;
 /// The processor status word, of which this machine has the lower eight bits.
 #[derive(Clone, Copy, Debug, PartialEq, Eq)]
 pub struct ProcessorStatus {
-    /// The priority, of which only the lower three bits count. No device interrupts, so nothing depends on it.
+    /// The priority, of which only the lower three bits count. No device interrupts, so the priority only shows in the status word.
     pub priority: u8,
     /// T: whether a trace trap follows each instruction, except RTT, HALT, WAIT and one that traps.
     pub trace: bool,

@@ -12,9 +12,9 @@ use m11_base::{Feed, Sink, decode};
 impl Machine {
     /// Executes the instruction at the program counter, with the traps that it leads to.
     ///
-    /// The program's requests and bytes go to `feed` and `sink` as they come, and nothing is asked for ahead. A stop other than
-    /// `Halt` and `Wait` lasts: each further step returns it and changes nothing. After `Halt` and `Wait` a further step goes on.
-    /// The call allocates nothing.
+    /// A byte is read from `feed` only when the program asks for it, never ahead of time, and a byte that the program sends goes to `sink`
+    /// at once. A stop other than `Halt` and `Wait` lasts: each further step returns it and changes nothing. After `Halt` and `Wait` a
+    /// further step goes on. The call allocates nothing.
     #[inline(always)]
     pub fn step<F: Feed, S: Sink>(&mut self, feed: &mut F, sink: &mut S) -> Turn
         ensures { Does (step self.old)
@@ -58,7 +58,7 @@ impl Machine {
         }
     }
 
-    // The turn after an instruction that was completed: a trace trap if T is set, otherwise the next instruction.
+    // The turn after a completed instruction that isn't RTT, HALT or WAIT: a trace trap if T is set, otherwise the next instruction.
     #[tactic(auto, using(crate::proofs::Dialogues::dialogues), unfolding(crate::specs::Steps::ended))]
     #[inline(always)]
     fn ended<S: Sink>(&mut self, sink: &mut S) -> Turn

@@ -13,7 +13,7 @@ pub enum Stop {
     Wait,
     /// 4: a trap couldn't push onto the stack.
     StackFault,
-    /// 5: the tape names no start: its transfer address is odd.
+    /// 5: the start address is odd. A tape that names no start has an odd transfer address.
     NoStart,
     /// 6: the console's input failed.
     InputFault,
@@ -37,14 +37,14 @@ pub enum LastingStop {
 pub enum Turn {
     /// The next instruction can begin, perhaps the first one of a trap handler.
     Next,
-    /// The machine stops. After HALT and WAIT a further step goes on; after any other stop it returns the same one.
+    /// The machine stops. After HALT and WAIT a further step goes on; after any other stop each further step returns the same stop.
     Stopped(Stop),
 }
 
 impl LastingStop {
     ghost use Rattle.m11_cpu_machine.specs.Stop.{stop_of};
 
-    /// This stop as one of all the stops of a run, which have numbers and names.
+    /// This stop as a `Stop`, which has a number and a name.
     pub fn stop(self) -> Stop
         ensures { result ≡ stop_of self }
     {

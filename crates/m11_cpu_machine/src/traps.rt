@@ -12,8 +12,8 @@ use crate::stop::{LastingStop, Turn};
 use m11_base::{Register, Sink};
 
 impl Machine {
-    /// A trap: pushes the processor status and the program counter, and then loads both from the vector. If they can't be pushed,
-    /// the machine stops for good, and the vector isn't loaded.
+    /// Takes a trap: pushes the processor status and the program counter, and then loads both from the vector. If they can't be pushed, the
+    /// machine stops for good, and the vector isn't loaded.
     #[cold]
     #[inline(never)]
     pub(crate) fn trap<S: Sink>(&mut self, vector: Vector, sink: &mut S) -> Turn

@@ -1,4 +1,4 @@
--- Branches and jumps, where the program counter is handed along.
+-- Branches and jumps, with the program counter passed separately from the registers.
 use Rattle.std.proofs.Common.{◌≡◌, ℕ, ◌+◌, ◌-◌, ◌*◌, ◌%◌, ◌<◌, ◌==◌, Bool, true, false, cond, refl, sym, ◌∙◌, ap, subst, List, length, arith, ℤ}
 use Rattle.std.proofs.lemmas.List.{get_or-set_same, set-set}
 use Rattle.std.specs.Prelude.{slice_set, Result, Ok}
@@ -48,13 +48,13 @@ branch_passed operation words next rs m t =
     ap (λ (b : Bool). cond b (with_register Pc (words_on (register_of Pc (shown next rs m)) words) (shown next rs m))
     (shown next rs m)) t
 
--- a program counter that is put beside
+-- a value stored as the program counter among the registers has no effect, since the program counter is passed separately
 pub beside : (next v : ℕ) (rs rs' : List ℕ) (m : Machine) → rs' ≡ slice_set rs 7 v → shown next rs' m ≡ shown next rs m
 beside next v rs rs' m e =
     let to : List ℕ → Machine = λ x. record m { registers = x } in
     ap (λ (x : List ℕ). shown next x m) e ∙ ap to (set-set rs 7 v (next))
 
--- SOB
+-- SOB subtracts 1 from its register, also where the registers are passed separately
 count_at : (register : Register) (next left : ℕ) (rs rs' : List ℕ) (m : Machine) → register_number register < 7
     → left ≡ (held rs register + 0o177777) % 0o200000 → rs' ≡ with_held rs register left
     → (left ≡ stepped_back register 1 (shown next rs m))
@@ -91,7 +91,7 @@ counts_out register words next left rs rs' m g f e z =
     ∙ ap (λ (b : Bool). cond b (shown next rs' m)
     (with_register Pc (stepped_back Pc (words * 2) (shown next rs' m)) (shown next rs' m))) z
 
--- JMP
+-- JMP goes to the address at which its operand is found
 pub jumps : (operand : Operand) (a next next' : ℕ) (rs rs' : List ℕ) (m : Machine)
     → location_of operand Word (shown next rs m) ≡ Comes (Ok (InMemory a), shown next' rs' m)
     → jump operand (shown next rs m) ≡ Comes (Ok tt, shown a rs' m)
@@ -104,7 +104,7 @@ jumps operand a next next' rs rs' m p =
 
 -- ---- the stack
 
--- a word that is pushed; the stack pointer goes back
+-- a push decrements the stack pointer by 2 and stores the word at the new top of the stack
 pub pushes : (v top next : ℕ) (rs rs' : List ℕ) (m : Machine) → top ≡ (held rs Sp + 0o177776) % 0o200000
     → rs' ≡ with_held rs Sp top → is_plain Word top m.memory ≡ true
     → push v (shown next rs m) ≡ Comes (Ok tt, shown next rs' (stored Word top v m))
@@ -118,7 +118,7 @@ pushes v top next rs rs' m t f p =
     ap (λ (x : ℕ). store_word x v (with_register Sp x (shown next rs m))) (sym back)
     ∙ ap (λ (x : Machine). store_word top v x) at ∙ word_stores top v (shown next rs' m) p
 
--- JSR of the program counter
+-- JSR PC pushes the return address and goes to the address of its operand
 pub calls : (operand : Operand) (a top next after : ℕ) (rs rs' rs'' : List ℕ) (m : Machine)
     → location_of operand Word (shown next rs m) ≡ Comes (Ok (InMemory a), shown after rs' m)
     → length rs' ≡ 8
@@ -138,7 +138,7 @@ calls operand a top next after rs rs' rs'' m p l t f w =
     (counter_put after (register_of Pc (shown after rs'' m')) rs'' m')
     ∙ ap (λ (x : List ℕ). to (record m' { registers = x })) (set-set rs'' 7 (register_of Pc (shown after rs'' m')) a)
 
--- JSR of a register before SP
+-- JSR of one of R0 to R5 pushes the register, stores the return address in it, and goes to the address of its operand
 pub calls_through : (register : Register) (operand : Operand) (a v top next after : ℕ) (rs rs' rs'' rs3 : List ℕ) (m : Machine)
     → register_number register < 6
     → location_of operand Word (shown next rs m) ≡ Comes (Ok (InMemory a), shown after rs' m)
@@ -163,7 +163,7 @@ calls_through register operand a v top next after rs rs' rs'' rs3 m g p l h t f 
     (other_put after after rs'' register m' general ∙ ap (λ (x : List ℕ). shown after x m') (sym k))
     ∙ ap to (goes_to after a a rs3 m' refl)
 
--- the program counter was loaded, the stack pointer stepped, and the register is loaded last
+-- RTS loads the program counter, pops a word, and loads its register last
 returned : (register : Register) (top word : ℕ) (m n k l : Machine)
     → n ≡ with_register Pc (register_of register m) m → top ≡ register_of Sp n
     → is_plain Word top n.memory ≡ true → word ≡ plain_at Word top n.memory
@@ -180,7 +180,7 @@ returned register top word m n k l e t p w s r =
     ∙ ap (λ (v : ℕ). with_register register v (advanced Sp 2 n)) value in
     subst Q e (bind_at pop load n (advanced Sp 2 n) _ popped ∙ ap to (sym last))
 
--- RTS of the program counter
+-- RTS PC goes to the popped word
 pub returns_to : (top word next : ℕ) (rs rs' : List ℕ) (m : Machine) → length rs ≡ 8 → top ≡ held rs Sp
     → is_plain Word top m.memory ≡ true → word ≡ plain_at Word top m.memory
     → rs' ≡ with_held rs Sp ((top + 2) % 0o200000)
@@ -198,7 +198,7 @@ returns_to top word next rs rs' m l t p w f =
     returned Pc top word (shown next rs m) (shown next rs m) (shown next rs' m) (shown word rs' m)
     start (t ∙ sym (other_register next rs Sp m below)) p w stepped (sym (goes_to next word word rs' m refl))
 
--- RTS of a register before SP
+-- RTS of one of R0 to R5 goes to the register's old value, and loads the register with the popped word
 pub returns_through : (register : Register) (top word target next : ℕ) (rs rs' rs'' : List ℕ) (m : Machine)
     → register_number register < 6 → target ≡ held rs register → top ≡ held rs Sp
     → is_plain Word top m.memory ≡ true → word ≡ plain_at Word top m.memory
@@ -219,7 +219,7 @@ returns_through register top word target next rs rs' rs'' m g h t p w f k =
     start (t ∙ sym (other_register target rs Sp m below)) p w stepped
     (ap (λ (x : List ℕ). shown target x m) k ∙ sym (other_put target word rs' register m general))
 
--- RTI
+-- a pop, of which RTI makes two, reads the word at the top of the stack and increments the stack pointer by 2
 pops : (top word next : ℕ) (rs rs' : List ℕ) (m : Machine) → top ≡ held rs Sp
     → is_plain Word top m.memory ≡ true → word ≡ plain_at Word top m.memory
     → rs' ≡ with_held rs Sp ((top + 2) % 0o200000) → pop (shown next rs m) ≡ Comes (Ok word, shown next rs' m)

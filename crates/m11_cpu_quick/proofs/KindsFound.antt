@@ -8,7 +8,7 @@ use Rattle.m11_cpu_quick.specs.Kinds.{Describes}
 use Rattle.m11_cpu_quick.specs.declared.kinds.Kind.{Kind}
 use Rattle.m11_cpu_quick.specs.declared.kinds.Kind.TheVariants.{Rarer, Unseen}
 
--- if no word was looked at, each kind says nothing
+-- a look-up in a table of `Unseen` alone finds `Unseen`, or `Rarer` past its end; a property of both holds for what it finds
 none_there : (P : Kind → Type 0) → P Unseen → P Rarer → (count word : ℕ) → P (slice_index_or (replicate count Unseen) word Rarer)
 none_there P unseen rarer zero word = rarer
 none_there P unseen rarer (suc count) zero = unseen
@@ -17,7 +17,8 @@ none_there P unseen rarer (suc count) (suc word) = none_there P unseen rarer cou
 pub none_found : (word : ℕ) → word < 65536 → Describes (slice_index_or (replicate 65536 Unseen) word Rarer) word
 none_found word within = none_there (λ kind. Describes kind word) tt tt 65536 word
 
--- if the kind that is set has a property, and what a look-up found at its place had it before, what it finds there has it still
+-- if a look-up at a place finds a kind with a property, and a kind with this property is stored there, a look-up there still finds a kind
+-- with the property
 set_there : (P : Kind → Type 0) (kind : Kind) → P kind → (kinds : List Kind) (place : ℕ) → P (slice_index_or kinds place Rarer)
     → P (slice_index_or (slice_set kinds place kind) place Rarer)
 set_there P kind holds [] place before = before

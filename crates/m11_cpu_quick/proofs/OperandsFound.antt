@@ -1,4 +1,4 @@
--- Operands of each form, where the registers are handed along.
+-- Operands of each form, with the registers passed separately from the machine.
 use Rattle.std.proofs.Common.{◌≡◌, ℕ, ◌+◌, ◌-◌, ◌%◌, ◌<◌, ◌≢◌, true, refl, sym, ◌∙◌, ap, subst, length, arith, List}
 use Rattle.std.proofs.lemmas.List.{get_or-set_other, get_or-set_same, set-get_or, set_comm, set-set}
 use Rattle.std.specs.Prelude.{slice_index, slice_set, Result, Ok}
@@ -36,7 +36,7 @@ held registers register = slice_index registers (register_number register)
 abbrev pub with_held : List ℕ → Register → ℕ → List ℕ
 with_held registers register v = slice_set registers (register_number register) v
 
--- a register that is put back among the others
+-- storing its old value in a register undoes a change of this register
 pub put_back : (rs rs' : List ℕ) (register : Register) (v : ℕ) → rs' ≡ with_held rs register v
     → with_held rs' register (held rs register) ≡ rs
 put_back rs rs' register v e =
@@ -66,7 +66,7 @@ pub counter_put : (next v : ℕ) (rs : List ℕ) (m : Machine)
     → with_register Pc v (shown next rs m) ≡ record m { registers = slice_set rs 7 v }
 counter_put next v rs m = ap (λ x. record m { registers = x }) (set-set rs 7 (next) v)
 
--- the program counter steps over a word
+-- the program counter steps past a word, also where it is passed separately
 pub counter_steps : (next : ℕ) (rs : List ℕ) (m : Machine) → length rs ≡ 8
     → advanced Pc 2 (shown next rs m) ≡ shown ((next + 2) % 0o200000) rs m
 counter_steps next rs m e =
@@ -245,7 +245,7 @@ at_immediate_location operand size a next rs m e g l f =
     ∙ ap (λ (b : ℕ). advanced operand.register b (shown next rs m)) (sym (counter_step size operand.register r)) in
     by_increment operand size a (shown next rs m) (shown ((next + 2) % 0o200000) rs m) e (f ∙ counter) stepped
 
--- ---- what operands hold
+-- ---- the values of operands
 
 pub at_immediate : (operand : Operand) (size : Size) (v next : ℕ) (rs : List ℕ) (m : Machine)
     → operand.mode ≡ mode.Autoincrement

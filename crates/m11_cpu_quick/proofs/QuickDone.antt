@@ -84,7 +84,7 @@ plain_fetched Byte address v m p f =
     let to : ℕ → Dialogue (Result ℕ Abort × Machine) = λ x. Comes (Ok x, m) in
     byte_loads address m p ∙ ap to (sym f)
 
--- a status of the console, past the end of memory
+-- at an even address past the end of memory, a word or a byte is fetched from the device register there
 device_fetched : (address v : ℕ) (m : Machine) (size : Size) → is_odd address ≡ false → is_inside address m ≡ false
     → load_device address m ≡ Comes (Ok v, m) → fetch (InMemory address) size m ≡ Comes (Ok v, m)
 unfolding fetch load_word load_byte

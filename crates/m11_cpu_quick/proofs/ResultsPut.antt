@@ -1,4 +1,4 @@
--- Results that are put into registers and memory, where the registers are handed along.
+-- Results stored in registers and memory, with the registers passed separately from the machine.
 use Rattle.std.proofs.Common.{◌≡◌, ℕ, ◌+◌, ◌%◌, ◌<◌, ◌≤◌, ◌==◌, Bool, true, false, not, ◌&&◌, refl, sym, ◌∙◌, ap, List, length, arith}
 use Rattle.std.proofs.lemmas.Bool.{false≢true}
 use Rattle.std.proofs.lemmas.Bool.Decides.{nat_tests}
@@ -214,7 +214,7 @@ changes_one operation size operand location v computed k k' rs rs' rs'' m n p f 
     ∙ bind_at (fetch location size) _ (shown k' rs' m) (shown k' rs' m) v f
     ∙ ap (λ (x : Computed). store_result location size x (shown k' rs' m)) (sym c) ∙ e
 
--- MOV takes nothing from its destination
+-- the result of MOV doesn't depend on its destination
 pub written : (operation : DoubleOp) (size : Size) (source v : ℕ) (codes : ConditionCodes) (computed : Computed)
     → use_by_double operation ≡ Writes → computed ≡ double_result operation size source v codes
     → computed ≡ double_result Mov size source 0 codes
@@ -227,7 +227,7 @@ written Bis size source v codes computed u e = cc
 written Add size source v codes computed u e = cc
 written Sub size source v codes computed u e = cc
 
--- CLR and SXT take nothing of their operand
+-- the results of CLR and SXT don't depend on the value of their operand
 pub unread : (operation : SingleOp) (size : Size) (v : ℕ) (codes : ConditionCodes) (computed : Computed)
     → use_by_single operation ≡ Some Writes → computed ≡ single_result operation size v codes
     → computed ≡ single_result operation size 0 codes
@@ -282,7 +282,7 @@ low_general R5 h = omega arith
 low_general Sp h = absurd (omega arith)
 low_general Pc h = absurd (omega arith)
 
--- a pair that is put, its high word first
+-- storing a pair's high word, and then its low word, does the same where the registers are passed separately
 pair_put : (register : Register) (pair : Pair) (k : ℕ) (rs high low : List ℕ) (m n : Machine) → register_number register < 6
     → high ≡ with_held rs register pair.high → low ≡ with_held high (low_word_of register) pair.low
     → n ≡ with_condition_codes pair.codes m
@@ -298,7 +298,7 @@ pair_put register pair k rs high low m n g h l e =
     ∙ ap (λ (x : Machine). with_condition_codes pair.codes x) last
     ∙ ap (λ (x : Machine). shown k low x) (sym e)
 
--- MUL of a register before SP, by a source that was fetched
+-- MUL of one of R0 to R5, with a fetched source, does the same where the registers are passed separately
 pub multiplied_at : (register : Register) (v k : ℕ) (rs high low : List ℕ) (product : Pair) (m n : Machine)
     → register_number register < 6 → product ≡ product_of (held rs register) v
     → high ≡ with_held rs register product.high → low ≡ with_held high (low_word_of register) product.low
@@ -310,7 +310,7 @@ multiplied_at register v k rs high low product m n g p h l e =
     ap (λ (x : ℕ). put (product_of x v)) (other_register k rs register m general) ∙ ap put (sym p)
     ∙ pair_put register product k rs high low m n g h l e
 
--- ASHC, as MUL
+-- ASHC of one of R0 to R5, with a fetched count, does the same where the registers are passed separately
 pub shifts_pair : (register : Register) (v k : ℕ) (rs high low : List ℕ) (pair : Pair) (m n : Machine)
     → register_number register < 6
     → pair ≡ shift_pair_result (held rs register) (held rs (low_word_of register)) v
@@ -326,7 +326,7 @@ shifts_pair register v k rs high low pair m n g p h l e =
     (other_register k rs (low_word_of register) m (low_general register g))
     ∙ ap put (sym p) ∙ pair_put register pair k rs high low m n g h l e
 
--- ASH
+-- ASH of one of R0 to R5, with a fetched count, does the same where the registers are passed separately
 pub shifts : (register : Register) (v k : ℕ) (rs rs' : List ℕ) (computed : Computed) (m n : Machine)
     → register_number register < 6 → computed ≡ shift_result (held rs register) v
     → rs' ≡ with_held rs register computed.value → n ≡ with_condition_codes computed.codes m
@@ -351,7 +351,7 @@ divided_by register v k rs division m g p =
     (other_register k rs (low_word_of register) m (low_general register g))
     ∙ ap put (sym p)
 
--- DIV that is done, and one that is refused
+-- DIV of one of R0 to R5, done or refused, does the same where the registers are passed separately
 pub divides : (register : Register) (v quotient remainder k : ℕ) (codes : ConditionCodes) (rs high low : List ℕ) (m n : Machine)
     → register_number register < 6
     → Done quotient remainder codes ≡ division_of (held rs register) (held rs (low_word_of register)) v
@@ -368,7 +368,7 @@ pub refuses : (register : Register) (v k : ℕ) (codes : ConditionCodes) (rs : L
 refuses register v k codes rs m n g p e =
     divided_by register v k rs (Refused codes) m g p ∙ ap (λ (x : Machine). shown k rs x) (sym e)
 
--- MUL of a register before SP: the high word of the product is put first
+-- MUL of one of R0 to R5 fetches its source, and stores the high word of the product before the low word
 pub multiplies : (register : Register) (source : Operand) (v k k' : ℕ) (rs rs' high low : List ℕ) (product : Pair)
     (m n : Machine) → register_number register < 6
     → fetch_operand source Word (shown k rs m) ≡ Comes (Ok v, shown k' rs' m)

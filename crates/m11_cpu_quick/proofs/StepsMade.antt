@@ -1,4 +1,4 @@
--- From what an operation does to what the instruction of a word does, and to a step.
+-- Instructions and steps: each does what its operation does.
 use Rattle.std.proofs.Common.{◌≡◌, ℕ, ◌+◌, ◌/◌, ◌%◌, ◌<◌, true, refl, sym, ◌∙◌, ap, List, length, Option, Some}
 use Rattle.std.specs.Prelude.{slice_set, Ok}
 use Rattle.std.proofs.lemmas.List.{set-get_or}
@@ -99,7 +99,7 @@ made next after word rs rs' m n h r l p w x t =
     step_made (shown next rs m) (shown ((next + 2) % 0o200000) rs m) (shown after rs' n) next word h r
     (sym (counter_read next rs m l)) p w (sym (counter_put next ((next + 2) % 0o200000) rs m)) x t
 
--- a machine as it is
+-- no steps lead from a machine to itself, with its own registers and program counter passed separately
 pub begun : (next : ℕ) (m : Machine) → next ≡ register_of Pc m → StepsAtOnce 0 m (shown next m.registers m)
 unfolding StepsAtOnce
 begun next m n =
@@ -138,7 +138,7 @@ condition_acts word next operation named rs m n e f =
     ap (λ (i : Insn). execute i (shown next rs m)) e
     ∙ ap (λ (x : Machine). Comes (Ok ending.Next, shown next rs x)) (sym f)
 
--- the instruction that a word was decoded to
+-- a word means the instruction that it was decoded to
 pub decoded : (word : ℕ) (i : Insn) → word < 65536 → i ≡ instruction_of word → meaning (operation_by_tables word) word ≡ i
 decoded word i h e = tables_meaning word h ∙ sym e
 

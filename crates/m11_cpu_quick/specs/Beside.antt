@@ -11,7 +11,7 @@ use Rattle.m11_cpu_machine.specs.declared.machine.Machine.{Machine}
 abbrev pub shown : ℕ → List ℕ → Machine → Machine
 shown counter registers m = record m { registers = slice_set registers 7 counter }
 
--- a word itself, or its low byte for an operand of one byte
+-- the word itself for a word operand, or its low byte for a byte operand
 abbrev pub low : Size → ℕ → ℕ
 low Word value = value
 low Byte value = value % 256

@@ -26,33 +26,33 @@ use Rattle.m11_cpu_quick.specs.declared.forms.Form.TheVariants as form
 use Rattle.m11_cpu_quick.specs.declared.kinds.Kind.{Kind}
 use Rattle.m11_cpu_quick.specs.declared.kinds.Kind.TheVariants as kind
 
--- the word of a double operand instruction with operands of these forms
+-- the word is the code of this double operand instruction, with operands of these forms
 pub record IsDouble (operation : DoubleOp) (size : Size) (source destination : Form) (word : ℕ) : Type 0 where
   pub operation_is : operation_by_tables word ≡ Some (op.Double operation size)
   pub source_is : IsForm source size (operand_of (word / 0o100 % 0o100))
   pub destination_is : IsForm destination size (operand_of (word % 0o100))
 
--- the word of a single operand instruction with an operand of this form
+-- the word is the code of this single operand instruction, with an operand of this form
 pub record IsSingle (operation : SingleOp) (size : Size) (form : Form) (word : ℕ) : Type 0 where
   pub operation_is : operation_by_tables word ≡ Some (op.Single operation size)
   pub operand_is : IsForm form size (operand_of (word % 0o100))
 
--- the word of a branch
+-- the word is the code of this branch
 abbrev pub IsBranch : BranchOp → ℕ → Type 0
 IsBranch operation word = operation_by_tables word ≡ Some (op.Branch operation)
 
--- the word of an SOB whose register isn't the program counter
+-- the word is the code of an SOB whose register isn't the program counter
 pub record IsCount (word : ℕ) : Type 0 where
   pub operation_is : operation_by_tables word ≡ Some op.Sob
   pub general : word / 0o100 % 0o10 < 7
 
--- the word of a JSR PC with an operand of this form
+-- the word is the code of a JSR PC with an operand of this form
 pub record IsCall (form : Form) (word : ℕ) : Type 0 where
   pub operation_is : operation_by_tables word ≡ Some (op.Register Jsr)
   pub counter : word / 0o100 % 0o10 ≡ 7
   pub operand_is : IsForm form Word (operand_of (word % 0o100))
 
--- the word of an RTS PC
+-- the word is the code of an RTS PC
 pub record IsReturn (word : ℕ) : Type 0 where
   pub operation_is : operation_by_tables word ≡ Some op.Rts
   pub counter : word % 0o10 ≡ 7
@@ -64,7 +64,7 @@ carry_alone = record { negative = false; zero = false; overflow = false; carry =
 abbrev pub IsOnCarry : ConditionOp → ℕ → Type 0
 IsOnCarry operation word = meaning (operation_by_tables word) word ≡ instruction.Condition operation carry_alone
 
--- the word of a MUL of one of R0 to R5, with a source of this form
+-- the word is the code of a MUL of one of R0 to R5, with a source of this form
 pub record IsProduct (source : Form) (word : ℕ) : Type 0 where
   pub operation_is : operation_by_tables word ≡ Some (op.Extended Mul)
   pub general : word / 0o100 % 0o10 < 6

@@ -13,7 +13,7 @@ use Rattle.m11_cpu_machine.specs.DoubleOperands.{double_at}
 use Rattle.m11_cpu_machine.specs.Memory.{byte_at, word_at}
 use Rattle.m11_cpu_machine.specs.declared.machine.Machine.{Machine}
 
--- whether a byte, or a word at an even address, lies in memory
+-- whether a word or byte at this address is plain: it lies in memory, and a word has an even address
 abbrev pub is_plain : Size → ℕ → Bytes → Bool
 is_plain Word address memory = not (is_odd address) && nat_lt address (length memory)
 is_plain Byte address memory = nat_lt address (length memory)

@@ -159,7 +159,7 @@ fn act_on_two(
     }
 }
 
-// Executes an instruction of any other kind. Also returns None for `Rarer` and `Unseen`, which have no arm of their own.
+// Executes an instruction of any kind but `Double`. Also returns None for `Rarer` and `Unseen`, which have no arm of their own.
 #[inline]
 #[rattlefmt::skip]
 fn act_on_others(

@@ -65,8 +65,8 @@ pub(crate) fn count_down(
     }
 }
 
-/// Executes JMP and returns its target. None, with nothing changed, if the form is `Other`, if the target isn't the address of a word in
-/// memory, or if finding it would involve a device or a trap.
+/// Executes JMP and returns its target. None, with nothing changed, if the form is `Register` or `Other`, if the target isn't the address
+/// of a word in memory, or if finding it would involve a device or a trap.
 #[inline(always)]
 pub(crate) fn jump(
     machine: &Machine,
@@ -84,8 +84,8 @@ pub(crate) fn jump(
     Some(target)
 }
 
-/// Executes JSR PC and returns its target. None, with nothing changed, if the form is `Other`, if the target or the new top of the stack
-/// isn't the address of a word in memory, or if finding the target would involve a device or a trap.
+/// Executes JSR PC and returns its target. None, with nothing changed, if the form is `Register` or `Other`, if the target or the new top
+/// of the stack isn't the address of a word in memory, or if finding the target would involve a device or a trap.
 #[inline(always)]
 pub(crate) fn call(
     machine: &mut Machine,
@@ -113,8 +113,8 @@ pub(crate) fn call(
     Some(target)
 }
 
-/// Executes JSR of one of R0 to R5 and returns its target. None, with nothing changed, if the form is `Other`, if the target or the new
-/// top of the stack isn't the address of a word in memory, or if finding the target would involve a device or a trap.
+/// Executes JSR of one of R0 to R5 and returns its target. None, with nothing changed, if the form is `Register` or `Other`, if the target
+/// or the new top of the stack isn't the address of a word in memory, or if finding the target would involve a device or a trap.
 // speed: the compiler inlines it, since it has one caller.
 #[inline]
 pub(crate) fn call_through(

@@ -5,7 +5,7 @@ ghost use Rattle.m11_cpu_quick.specs.Kinds.{Describes};
 use crate::kinds::Kind;
 use std::marker::Model;
 
-/// The kind of each word. Contracts know only one fact about it: each kind describes its word.
+/// The kind of each word. Contracts know only one fact about the table: each kind in it describes its word.
 #[derive(Drop)]
 pub struct KindTable {
     of_words: [Kind; 65536],

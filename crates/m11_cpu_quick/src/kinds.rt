@@ -107,7 +107,8 @@ pub(crate) enum Kind {
 }
 
 impl Kind {
-    /// The kind of the instruction with this word; `Rarer`, here or inside `Double`, if it has no arm of its own. Never `Unseen`.
+    /// The kind of the instruction with this word, never `Unseen`. If the instruction has no arm of its own, the kind is `Rarer`, or for a
+    /// double operand instruction `Double(DoubleKind::Rarer)`.
     pub(crate) fn of(word: u16) -> Kind
         ensures { Describes result word }
     {

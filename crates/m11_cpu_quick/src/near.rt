@@ -49,8 +49,8 @@ pub(crate) fn store_plain(machine: &mut Machine, size: Size, address: u16, value
     }
 }
 
-/// The status of the console's receiver or transmitter whose register is at this address; None at any other address, or if the receiver
-/// would have to ask for a byte.
+/// The status of the console's receiver or transmitter whose status register is at this address; None at any other address, or if the
+/// receiver would have to ask for a byte.
 #[inline(always)]
 pub(crate) fn status_at(machine: &Machine, address: u16) -> Option<u16>
     ensures value { IfSome result (λ value. (size : Size) (counter : ℕ) (registers : List ℕ)

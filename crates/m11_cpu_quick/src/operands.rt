@@ -183,7 +183,7 @@ pub(crate) fn value_of(
     }
 }
 
-/// The value of a register. The value of the program counter has no meaning.
+/// The value of a register in `registers`. That of the program counter has no meaning, since the program counter is passed separately.
 #[inline(always)]
 pub(crate) fn held(register: Register, registers: &[u16; 8]) -> u16
     ensures { result ≡ slice_index registers.now (register_number register) }
@@ -199,7 +199,7 @@ pub(crate) fn hold(register: Register, value: u16, registers: &mut [u16; 8])
     registers[usize::from(register.number())] = value;
 }
 
-/// A word itself, or its low byte for an operand of one byte.
+/// The word itself for a word operand, or its low byte for a byte operand.
 #[inline(always)]
 pub(crate) fn low(size: Size, value: u16) -> u16
     ensures low { result ≡ low size value }

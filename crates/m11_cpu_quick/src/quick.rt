@@ -18,9 +18,9 @@ use core::mem;
 use m11_base::{Register, Size};
 use m11_cpu_machine::Machine;
 
-/// Makes at most `limit` quick steps, up to the first step that isn't quick, and returns how many were made. The loop also ends at a word
-/// whose kind hasn't been found yet, and that kind is then entered in `kinds`. No step is made if the machine has a lasting stop or T is
-/// set.
+/// Makes at most `limit` quick steps, ends before the first step that isn't quick, and returns the number of steps made. The loop also ends
+/// at an instruction whose kind hasn't been found yet, and that kind is then entered in `kinds`. No step is made if the machine has a
+/// lasting stop or T is set.
 #[tactic(auto, using(crate::proofs::QuickDone::no_steps))]
 pub fn quick_steps(machine: &mut Machine, kinds: &mut KindTable, limit: u32) -> u32
     ensures made { StepsAtOnce result machine.old machine.new }
@@ -43,7 +43,7 @@ pub fn quick_steps(machine: &mut Machine, kinds: &mut KindTable, limit: u32) -> 
     made
 }
 
-// The word at the program counter; 0 if that is odd or past the end of memory.
+// The word at the program counter; 0 if the program counter is odd or past the end of memory.
 fn word_at_counter(machine: &Machine) -> u16 {
     match following(machine, Size::Word, machine.register(Register::Pc)) {
         Some(word) => word,
@@ -51,8 +51,9 @@ fn word_at_counter(machine: &Machine) -> u16 {
     }
 }
 
-// The loop itself: sequences of steps by kind, with a single rarer step between them, up to `limit` or the first step that isn't quick.
-// Returns the machine after the steps, and their number.
+// The loop itself. It makes sequences of steps by kind, which are the steps of instructions with a kind of their own, and a single step of
+// a rarer instruction after each sequence. It ends after `limit` steps, or before the first step that isn't quick. Returns the machine
+// after the steps, and their number.
 // speed: the steps by kind have an inner loop of their own, so that the compiler keeps what a rarer step needs in memory only around
 // that step, and not during the steps by kind.
 #[inline(never)]
@@ -81,8 +82,8 @@ fn steps_of(start: Machine, kinds: &KindTable, limit: u32) -> (Machine, u32)
     (put_back(machine, registers, next), done)
 }
 
-// Makes at most `limit` steps by kind, up to the first that `quick_step` can't make. Returns how many it made, and the program counter
-// after them.
+// Makes at most `limit` steps by kind, and ends before the first step that `quick_step` can't make. Returns the number of steps made, and
+// the program counter after them.
 #[tactic(auto, using(crate::proofs::QuickDone::no_steps))]
 #[inline(always)]
 fn plain_steps(
@@ -133,8 +134,8 @@ fn quick_step(
 }
 
 // Makes one step of an instruction without a kind of its own, and returns the program counter after it; or None, with nothing changed,
-// if the instruction is left to the general step, or if the kind of its word hasn't been found yet. This function is also called where
-// the arm of a kind returned None, as for the console, and then returns None too.
+// if the instruction is left to the general step, or if the kind of its word hasn't been found yet. This function is also called after
+// the arm of a kind has returned None, for example because of an access to the console, and then returns None too.
 // speed: a call with a reference to the machine would keep it in memory during the whole loop, so everything is inlined.
 #[inline(always)]
 fn rarer_step(

@@ -1,6 +1,6 @@
-//! Instructions without a kind of their own: those with operands of any form, and the rare ones. They are decoded in each step, which is
-//! still part of the loop of quick steps. All other instructions are left to the general step, and so are those that would trap or
-//! access a device, except polls of the console. (PDP-11/40 Processor Handbook, "Instruction set".)
+//! Instructions without a kind of their own: those whose operands have rarer forms, and those with rarer operations. They are decoded anew
+//! in each step, but their steps are still part of the loop of quick steps. All other instructions are left to the general step, and so are
+//! those that would trap or access a device, except polls of the console. (PDP-11/40 Processor Handbook, "Instruction set".)
 
 ghost use Rattle.std.specs.Prelude.{◌≡◌, IfSome, None};
 ghost use Rattle.m11_base.specs.Instructions.{meaning};
@@ -108,8 +108,8 @@ fn rarer_single(
     Some(after)
 }
 
-// Executes MUL, DIV, ASH or ASHC of one of R0 to R5. None, with nothing changed, if it is left to the general step, as for SP and
-// PC.
+// Executes MUL, DIV, ASH or ASHC of one of R0 to R5. None, with nothing changed, if it is left to the general step, as it is for SP
+// and PC.
 #[inline(always)]
 fn rarer_extended(
     machine: &mut Machine,
@@ -140,7 +140,7 @@ fn rarer_extended(
     Some(after)
 }
 
-// Executes JSR or XOR of one of R0 to R5. None, with nothing changed, if it is left to the general step, as for SP and PC.
+// Executes JSR or XOR of one of R0 to R5. None, with nothing changed, if it is left to the general step, as it is for SP and PC.
 #[inline(always)]
 fn on_register(
     machine: &mut Machine,
@@ -180,7 +180,7 @@ fn on_register(
     }
 }
 
-// Executes RTS of one of R0 to R5. None, with nothing changed, if it is left to the general step, as for SP and PC.
+// Executes RTS of one of R0 to R5. None, with nothing changed, if it is left to the general step, as it is for SP and PC.
 #[inline(always)]
 fn rarer_return(
     machine: &mut Machine,

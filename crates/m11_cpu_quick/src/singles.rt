@@ -233,8 +233,8 @@ fn single_by_use(
     }
 }
 
-// Executes TST or TSTB of a status register of the console at an absolute address, as programs do to poll it. None, with nothing changed,
-// for any other operation or operand, or if the receiver would have to ask for a byte.
+// Executes TST or TSTB of a status register of the console at an absolute address, as programs do to poll the console. None, with nothing
+// changed, for any other operation or operand, or if the receiver would have to ask for a byte.
 #[inline(always)]
 fn poll(
     machine: &mut Machine,
@@ -263,8 +263,8 @@ fn poll(
     }
 }
 
-// Executes TST or TSTB of a status register of the console at an absolute address. None, with nothing changed, if the address is
-// another one, or if the receiver would have to ask for a byte.
+// Executes TST or TSTB of a status register of the console at an absolute address. None, with nothing changed, if the address can't be read
+// from memory or isn't that of a status register, or if the receiver would have to ask for a byte.
 #[tactic(auto, using(crate::proofs::ResultsPut::byte_fits))]
 #[inline(always)]
 fn test_status(

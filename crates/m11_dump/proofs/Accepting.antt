@@ -1,4 +1,4 @@
--- A record that was taken, and then judged.
+-- A record that was accepted, and then checked against the rules.
 use Rattle.std.proofs.Common.{◌≡◌, ℕ, List, [], ◌++◌, Option, Ok, Err, inl, inr, refl, sym, subst}
 use Rattle.std.specs.List.{concat}
 use Rattle.m11_obj.specs.Reading.{IsRecord, content_of}
@@ -19,7 +19,7 @@ use Rattle.m11_dump.specs.declared.held.HeldText.{HeldText}
 use Rattle.m11_dump.specs.declared.stand.Stand.{Stand}
 use Rattle.m11_dump.specs.declared.view.View.{View}
 
--- a record was taken, and then what is held had to be shown
+-- a record was accepted; what follows when the text that is pending after it is shown, and when it can't be shown
 module _ (view : View) (s : Stand) (parts : List Part) (known : RulesState) (content : List ℕ) (count : ℕ) (is : IsRecord content)
     (output middle final : OutputState) (there : ℕ) (at : there ≡ address_then s.address (content_of content)) (held' : Option HeldText)
     (t : Takes view s.address s.held content output middle (Ok held')) where

@@ -1,11 +1,11 @@
--- Lines of instructions with relocations after the bytes that they name, one byte after another.
+-- Lines of instructions with relocations after the bytes that they apply to, one byte after another.
 use Rattle.std.proofs.Common.{◌≡◌, ◌∙◌, ℕ, zero, suc, ◌+◌, ◌-◌, ◌<◌, ◌≤◌, List, [], ◌∷◌, ◌++◌, append_assoc, drop, length, refl, sym, ap, take, arith}
 use Rattle.std.proofs.lemmas.List.{drop-append-le, drop-drop, length-drop, length-take-le, take-append-drop, take_all}
 use Rattle.m11_dump.specs.Beside.{left_at, line_at, lines_beside}
 use Rattle.m11_dump.specs.Instructions.{over_from}
 use Rattle.m11_dump.specs.Octets.{location_after}
 
--- the first byte, and those after it
+-- the lines of some bytes are the line that begins with the first byte, the other lines for that byte, and the lines of the bytes after it
 first_beside : (others : ℕ → List ℕ) (address index shown : ℕ) (bytes beyond : List ℕ) → 0 < length bytes
     → lines_beside others address index shown bytes beyond
     ≡ line_at (location_after address index) shown (bytes ++ beyond) ++ (others index ++ lines_beside others address (index + 1)
@@ -22,7 +22,7 @@ over_beside address index (suc shown) (byte ∷ bytes) beyond some = refl
 drop_one : (index : ℕ) (bytes : List ℕ) → drop 1 (drop index bytes) ≡ drop (index + 1) bytes
 drop_one index bytes = drop-drop 1 index bytes
 
--- one more byte is passed, of those from an index on
+-- after the lines of the byte at an index, the lines of the bytes after it remain
 module _ (bytes : List ℕ) (address own index : ℕ) (there : own ≤ length bytes) (below : index < own) (location : ℕ)
     (at : location ≡ location_after address index) where
   abbrev mine : List ℕ
@@ -37,7 +37,7 @@ module _ (bytes : List ℕ) (address own index : ℕ) (there : own ≤ length by
   some : 0 < length (drop index mine)
   some = omega (arith, long, below, length-drop index mine)
 
-  -- the bytes as the code has them
+  -- the bytes at and after the index, as the code passes them, are the text's remaining bytes and those beyond the text
   left_is : take (length bytes - index) (drop index bytes) ≡ drop index mine ++ beyond
   left_is = take_all (length bytes - index) (drop index bytes) (omega (arith, length-drop index bytes))
       ∙ ap (λ (l : List ℕ). drop index l) (sym (take-append-drop own bytes))

@@ -1,4 +1,4 @@
--- The content of a block stands before its sum byte.
+-- The content of a block lies just before its sum byte.
 use Rattle.std.proofs.Common.{◌≡◌, ◌∙◌, ℕ, ◌+◌, ◌<◌, List, [], ◌∷◌, ◌++◌, length, length-append, append-nil, append_assoc, Ok, Err, refl, sym, ap, arith}
 use Rattle.std.specs.List.{AllByRecursion}
 use Rattle.m11_obj_blocks.specs.Blocks.{first_block}
@@ -17,7 +17,7 @@ after_zero : (bytes : List ℕ) → first_block (0 ∷ bytes) ≡ first_block by
 unfolding first_block
 after_zero bytes = refl
 
--- a content, with what stands before it and its sum byte
+-- the bytes consist of some bytes, this content and one last byte, the sum byte
 pub record Split (content bytes : List ℕ) : Type 0 where
   pub front : List ℕ
   pub last : ℕ

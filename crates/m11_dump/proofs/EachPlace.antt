@@ -32,12 +32,12 @@ places_beside others address index shown (byte ∷ bytes) beyond =
       ),
     )
 
--- ---- each relocation once
+-- ---- each relocation is shown once
 
 abbrev pub Once : ℕ → ℕ → Relocation → Type 0
 Once address count relocation = ((index : ℕ) × IsShownBeside address count relocation index) ⊎ IsShownAfter address count relocation
 
--- a relocation that stores a value, by its displacement
+-- a relocation that stores a value is shown once, whether its displacement lies before, in or behind the text
 module _ (address count : ℕ) (relocation : Relocation) (yes : stores relocation.target ≡ true) where
   abbrev place : ℕ
   place = relocation.displacement

@@ -14,7 +14,7 @@ use Rattle.m11_dump.specs.Records.{address_then, kept, lines_then}
 use Rattle.m11_dump.specs.Relocations.{relocation_line}
 use Rattle.m11_dump.specs.declared.held.HeldText.{HeldText}
 
--- what is shown, given the fields of a record of this type
+-- what is shown of a record with this type and these fields are the lines of its content
 abbrev pub ShowsFields : ℕ → Result Content RecordFault → RecordKind → Type 0
 ShowsFields address r kind.Gsd = flat_map entry_line (entries_in r) ≡ lines_then address r
 ShowsFields address r kind.EndOfGsd = codes "END OF DIRECTORY\n" ≡ lines_then address r
@@ -23,7 +23,7 @@ ShowsFields address r kind.Relocations = flat_map (relocation_line address) (rel
 ShowsFields address r kind.InternalSymbols = codes "INTERNAL SYMBOLS\n" ≡ lines_then address r
 ShowsFields address r kind.EndOfModule = codes "END OF MODULE\n" ≡ lines_then address r
 
--- the type of a record that says this is this one
+-- if two successful results hold the same type of record, the types are equal
 same_kind : {k other : RecordKind} → done k ≡ done other → k ≡ other
 same_kind e = cc
 

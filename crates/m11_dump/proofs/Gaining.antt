@@ -28,7 +28,7 @@ gained_texts o0 o1 o2 put more a b =
     let P : List ℕ → Type 0 = λ text. Gained text o0 o2 in
     subst P (sym (concat-append put more)) (gained_then o0 o1 o2 (concat put) (concat more) a b)
 
--- texts were put, and then some of these
+-- the texts in `put` were written, and those in `part` come after them
 module _ (o0 o1 o2 : OutputState) (texts put part : List (List ℕ)) (all : texts ≡ put ++ part) (gained : Gained (concat put) o0 o1) where
   pub gained_all : Gained (concat part) o1 o2 → Gained (concat texts) o0 o2
   gained_all more =

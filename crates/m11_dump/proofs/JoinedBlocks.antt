@@ -1,4 +1,4 @@
--- Blocks that go on at the next address are shown as one.
+-- A block, and one that begins where it ends, are shown as one block.
 use Rattle.std.proofs.Common.{◌≡◌, ◌∙◌, ℕ, zero, suc, ◌+◌, ◌-◌, ◌*◌, ◌%◌, ◌≤◌, Bool, true, false, List, [], ◌∷◌, ◌++◌, append_assoc, length, refl, sym, ap, take, arith}
 use Rattle.std.specs.Prelude.{◌==◌, codes, if◌then◌else◌}
 use Rattle.m11_base_disassembly.specs.Instructions.{size_of, statement_of}
@@ -10,7 +10,7 @@ use Rattle.m11_dump.proofs.EachLine.{same_front, size_within}
 use Rattle.m11_dump.specs.Octets.{location_after}
 use Rattle.m11_dump.specs.Instructions.{following, front_size, front_statement, line_by, line_text, lines_from, over_from, word_of}
 
--- ---- six bytes say what a line shows
+-- ---- the first six bytes determine a line
 
 following_four : (bytes : List ℕ) → following bytes ≡ following (take 4 bytes)
 following_four [] = refl
@@ -63,7 +63,7 @@ line_six symbols location bytes =
     ∙ ap (λ (s : Statement). line_by location (take (front_size location (take 6 bytes)) (take 6 bytes)) (statement_text s ++ name))
     (statement_six location bytes)
 
--- of the bytes beyond, five say it
+-- of the bytes beyond a block, the first five determine its lines
 module _ (x y : List ℕ) (same : take 5 x ≡ take 5 y) where
   six_same : (byte : ℕ) (bytes : List ℕ) → take 6 (byte ∷ (bytes ++ x)) ≡ take 6 (byte ∷ (bytes ++ y))
   six_same byte bytes =
@@ -104,7 +104,7 @@ module _ (x y : List ℕ) (same : take 5 x ≡ take 5 y) where
       ∙ over_same address (index + 1) (front_size location (byte ∷ (bytes ++ y)) - 1) bytes
   over_same address index (suc shown) (byte ∷ bytes) = over_same address (index + 1) shown bytes
 
--- ---- from the first byte of the next block on
+-- ---- the lines of the next block, with indexes counted from its own first byte
 
 location_further : (address base index : ℕ) → location_after address (base + index) ≡ location_after (location_after address base) index
 location_further address base index = omega arith
@@ -125,7 +125,7 @@ lines_further symbols address base index (suc shown) (byte ∷ bytes) beyond =
     let e : base + index + 1 ≡ base + (index + 1) = omega arith in
     ap (λ (i : ℕ). lines_from symbols address i shown bytes beyond) e ∙ lines_further symbols address base (index + 1) shown bytes beyond
 
--- ---- both blocks
+-- ---- both blocks together
 
 split : (symbols : List Symbol) (address index shown : ℕ) (bytes next beyond : List ℕ) → lines_from symbols address index shown (bytes ++ next) beyond
     ≡ lines_from symbols address index shown bytes (next ++ beyond)

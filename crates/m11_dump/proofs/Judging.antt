@@ -1,10 +1,10 @@
--- Records that are judged one after another, each by those of its module before it.
+-- Records that are checked one after another, each after the earlier records of its module.
 use Rattle.std.proofs.Common.{◌≡◌, ℕ, List, [], ◌∷◌, ◌++◌, None, refl}
 use Rattle.m11_link_modules.specs.Parts.{Part, record_parts}
 use Rattle.m11_link_modules.specs.Rules.{first_fault}
 use Rattle.m11_dump.specs.Objects.{FollowRules, open_after, open_parts}
 
--- ---- blocks, and one more
+-- ---- one more block
 
 pub open_more : (parts : List Part) (contents : List (List ℕ)) (content : List ℕ)
     → open_parts parts (contents ++ content ∷ []) ≡ open_after (open_parts parts contents) content

@@ -20,7 +20,7 @@ use Rattle.m11_dump.specs.declared.fault.LocatedFault.{LocatedFault}
 
 -- ---- the bytes of a block
 
--- what comes before the content, and what after it
+-- a block consists of 001 000, the length, the content and the sum byte
 parts : (content : List ℕ) → block content ≡ 1 ∷ 0 ∷ (word_bytes (length content + 4) ++ (content ++ sum_byte (header (length content) ++ content) ∷ []))
 parts content = sym (append-nil (block content)) ∙ block_parts content []
 
@@ -28,7 +28,7 @@ pub block_length : (content : List ℕ) → length (block content) ≡ length co
 block_length content =
     omega (arith, ap length (parts content), length-append content (sum_byte (header (length content) ++ content) ∷ []))
 
--- the content is what is left without the first four bytes and the last one
+-- the content of a block is what remains without the first four bytes and the last byte
 pub cut_is : (content bytes : List ℕ) → bytes ≡ block content → take (length bytes - 1 - 4) (drop 4 bytes) ≡ content
 cut_is content bytes e =
     let P : List ℕ → Type 0 = λ l. take (length bytes - 1 - 4) (drop 4 l) ≡ content in
@@ -37,7 +37,7 @@ cut_is content bytes e =
     subst P (sym (e ∙ parts content))
     (subst Q (sym long) (take-append_seam content (sum_byte (header (length content) ++ content) ∷ [])))
 
--- ---- bytes that are no such block
+-- ---- bytes that are not a listed block
 
 pub none_short : (bytes content : List ℕ) → length bytes < 5 → bytes ≡ block content → IsListed content → ⊥
 none_short bytes content short e listed = omega (arith, ap length e, block_length content, short)
@@ -67,7 +67,7 @@ pub none_changed : (bytes cut content : List ℕ) → cut ≡ take (length bytes
 none_changed bytes cut content is changed e listed =
     changed (ap (λ (l : List ℕ). block l) (is ∙ cut_is content bytes e) ∙ sym e)
 
--- ---- each place at which one may begin
+-- ---- each index at which a listed block may begin
 
 abbrev pub NoneAt : List ℕ → ℕ → Type 0
 NoneAt bytes k = (content : List ℕ) → drop k bytes ≡ block content → IsListed content → ⊥
@@ -82,7 +82,7 @@ starts_none bytes each before content e listed =
     each (length before) (omega (arith, ap length e, length-append before (block content), block_length content)) content
     (subst P (sym e) (drop-append_seam before (block content))) listed
 
--- all bytes from a place on
+-- the bytes that remain at an index are as many as the total less that index
 pub from_start : (bytes : List ℕ) (start : ℕ) → take (length bytes - start) (drop start bytes) ≡ drop start bytes
 from_start bytes start = take_all (length bytes - start) (drop start bytes) (omega (arith, length-drop start bytes))
 
@@ -93,7 +93,7 @@ starts_found bytes content start e listed = record {
   listed = listed;
 }
 
--- ---- lists from their ends
+-- ---- the ends of lists
 
 ends_in : (dropped window before tail : List ℕ) → dropped ++ window ≡ before ++ tail → length tail ≤ length window
     → (front : List ℕ) × (window ≡ front ++ tail)
@@ -119,7 +119,7 @@ fronts (a ∷ xs) (b ∷ ys) x y e =
     let same : a ≡ b = cc in
     ap (λ (l : List ℕ). a ∷ l) (fronts xs ys x y rest) ∙ ap (λ (n : ℕ). n ∷ ys) same
 
--- ---- bytes in which there is no block
+-- ---- bytes in which no listed block lies
 
 none_at_first : NoneIn []
 none_at_first before content after e listed =
@@ -135,13 +135,13 @@ none_more given byte none ends before content (x ∷ after) e listed =
 
 -- ---- the last bytes
 
--- these are the last of the bytes that were given: all of them, or as many as a block may have
+-- the window holds the last of the bytes that were read: all of them, or at least 517, as many as a block may have
 pub record Ending (window given : List ℕ) : Type 0 where
   pub dropped : List ℕ
   pub is : given ≡ dropped ++ window
   pub whole : (dropped ≡ []) ⊎ (517 ≤ length window)
 
--- the last bytes with one more after them, less those at the front that are then too many
+-- the new window is the old one with one more byte after it; bytes at its front may be dropped if it then has exactly 517
 abbrev pub Kept : List ℕ → ℕ → List ℕ → Type 0
 Kept window byte window' = (front : List ℕ) × (window ++ byte ∷ [] ≡ front ++ window') × ((front ≡ []) ⊎ (length window' ≡ 517))
 
@@ -198,7 +198,7 @@ ends_all content window given w ends = record {
 
 -- ---- looking for a block
 
--- the bytes that were read have none
+-- no listed block lies in the bytes that were read, and the window holds the last of these
 pub record Seeking (old here : Position) (window : List ℕ) : Type 0 where
   pub given : List ℕ
   pub took : Took old here given
@@ -216,7 +216,7 @@ seeking_begins old room = record {
 }
 
 module _ (old here : Position) (window : List ℕ) (s : Seeking old here window) where
-  -- one byte more was read
+  -- one more byte was read
   module _ (there : Position) (byte : ℕ) (window' : List ℕ) (t : Took here there (byte ∷ [])) (k : Kept window byte window') where
     took_more : Took old there (s.given ++ byte ∷ [])
     took_more = took_then old here there s.given (byte ∷ []) s.took t
@@ -255,7 +255,7 @@ module _ (old here : Position) (window : List ℕ) (s : Seeking old here window)
         let count : 4194304 - there.room ≡ length (s.given ++ byte ∷ []) = omega (arith, took_more.room, s.whole) in
         subst P (sym e) ((s.given ++ byte ∷ [], took_more, count), refl)
 
-  -- no more bytes came
+  -- if no further byte is read, the first block isn't found, for the reason that the fault gives
   unfound : (new : Position) (inner : DumpFault) → LacksByte here new inner → UnfoundBy inner old new (4194304 - new.room)
   unfound new (fault.Block block_fault.Device) h =
       (((s.given, (here, s.took, h), tt), omega (arith, s.took.room, s.whole, h.2)), s.none)

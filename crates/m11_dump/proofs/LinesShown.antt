@@ -6,7 +6,7 @@ use Rattle.m11_dump.specs.Octets.{location_after}
 use Rattle.m11_dump.specs.Instructions.{front_size, line_text, lines_from, over_from}
 
 module _ (address : ℕ) (beyond : List ℕ) where
-  -- the bytes that a line before shows are passed over
+  -- the lines of some bytes are the lines of those that the previous line doesn't show
   lines_after : (symbols : List Symbol) (shown index : ℕ) (bytes : List ℕ)
       → lines_from symbols address index shown bytes beyond ≡ lines_from symbols address (index + shown) 0 (drop shown bytes) beyond
   lines_after symbols zero index bytes =
@@ -46,7 +46,7 @@ module _ (address : ℕ) (beyond : List ℕ) where
       over_after shown 0 bytes ∙ ap (λ (i : ℕ). over_from address i (shown - length bytes) (drop shown bytes) beyond) e
       ∙ ap (λ (n : ℕ). over_from address shown (shown - n) (drop shown bytes) beyond) long
 
-  -- the first line, and those after it
+  -- the lines of some bytes are the first line, and the lines of the bytes that it doesn't show
   first_line : (symbols : List Symbol) (index size : ℕ) (bytes : List ℕ) → 0 < length bytes → 0 < size
       → size ≡ front_size (location_after address index) (bytes ++ beyond)
       → lines_from symbols address index 0 bytes beyond
@@ -74,7 +74,7 @@ module _ (address : ℕ) (beyond : List ℕ) where
       ∙ ap (λ (i : ℕ). over_from address i (rest - length bytes) (drop rest bytes) beyond) e
       ∙ ap (λ (n : ℕ). over_from address (index + suc rest) n (drop rest bytes) beyond) n
 
--- one more line is shown, of bytes from an index on
+-- after the line that begins at an index, the lines of the bytes after it remain
 module _ (bytes : List ℕ) (address own index size : ℕ) (there : own ≤ length bytes) (below : index < own) (least : 0 < size)
     (location : ℕ) (at : location ≡ location_after address index)
     (sized : size ≡ front_size location (take (length bytes - index) (drop index bytes))) where
@@ -90,7 +90,7 @@ module _ (bytes : List ℕ) (address own index size : ℕ) (there : own ≤ leng
   some : 0 < length (drop index mine)
   some = omega (arith, long, below, length-drop index mine)
 
-  -- the bytes as the code has them
+  -- the bytes at and after the index, as the code passes them, are the remaining bytes of the text or block and those beyond it
   left_is : take (length bytes - index) (drop index bytes) ≡ drop index mine ++ beyond
   left_is = take_all (length bytes - index) (drop index bytes) (omega (arith, length-drop index bytes))
       ∙ ap (λ (l : List ℕ). drop index l) (sym (take-append-drop own bytes))

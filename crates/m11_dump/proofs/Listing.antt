@@ -26,7 +26,7 @@ use Rattle.m11_dump.specs.declared.library_parts.Part.TheVariants.{Directory, In
 use Rattle.m11_dump.specs.declared.library_parts.Stage.{Stage}
 use Rattle.m11_dump.specs.declared.library_parts.Stage.TheVariants.{Between, Over}
 
--- ---- a block that isn't looked into
+-- ---- a block of which only the type is read
 
 pub unread_begins : (part : Part) (content : List ℕ) → is_read part ≡ false → begins_as part content ≡ false
 unread_begins Directory content e = absurd cc
@@ -51,7 +51,7 @@ unread_lines Other content e = absurd cc
 
 -- ---- a directory whose lines weren't all written
 
--- a record is its block's content
+-- the bytes of a record are the content of its block
 pub record_is : (read : Result Content RecordFault) (bytes own : List ℕ) → Ok own ≡ (read >>= λ content. Ok bytes) → own ≡ bytes
 record_is (Ok content) bytes own e = cc
 record_is (Err inner) bytes own e = absurd cc
@@ -75,7 +75,7 @@ directory_refused stage blocks content count byte output output' inner said part
     let Q : ℕ → Type 0 = λ n. RefusesPart stage content count output output' inner n in
     subst P (sym e) (subst Q (sym at) (entries_refused stage content count output output' inner part h), refl)
 
--- ---- one block more
+-- ---- one more block
 
 order_more : (first stage next : Stage) (contents : List (List ℕ)) (content : List ℕ) → InOrder first contents stage → IsSound content
     → stage_then stage content ≡ Some next → InOrder first (contents ++ content ∷ []) next
@@ -109,7 +109,7 @@ module _ (start here new : Position) (front given : List ℕ) (before : ℕ) (wh
 
 -- ---- how far a dump has come
 
--- these blocks were given and shown; the room bounds how many there are
+-- these blocks were read and shown; the number of bytes that may still be read bounds the number of blocks
 pub record Listing (first stage : Stage) (start here : Position) (output output' : OutputState) (blocks : ℕ) (contents : List (List ℕ)) : Type 0
   where
     pub gives : GivesBlocks start here contents
@@ -167,7 +167,7 @@ module _ (first stage : Stage) (start here : Position) (output output' : OutputS
   listing_over over =
       let P : Stage → Type 0 = λ s. InOrder first contents s in (contents, d.gives, subst P over d.order, d.gained)
 
-  -- no further block
+  -- if no further block can be read, the dump stops as the definition says
   lacks : (new : Position) (inner : DumpFault) (byte : ℕ) (said : LocatedFault) → LacksBlock inner here new (front ++ d.gives.given) byte
       → said ≡ placed_at inner blocks byte → ListsBlocks front first start new output output' (Err said)
   lacks new inner byte said h e =
@@ -188,7 +188,7 @@ module _ (first stage : Stage) (start here : Position) (output output' : OutputS
       lacks new (fault.Rule rule.BadOrder) count said
       (stops_after start here new front d.gives.given before d.whole d.gives.took all first_block EndsBetween count count stops e refl) said-is
 
-  -- a further block
+  -- a further block was read
   module _ (new : Position) (content : List ℕ) (r : Reads first_block here new content) (final : OutputState) (count : ℕ)
       (e : count ≡ before + count_read new) where
     pub listing_refused : (said : LocatedFault) → AcceptsPart stage blocks content count output' final (Err said)
@@ -205,7 +205,7 @@ module _ (first stage : Stage) (start here : Position) (output output' : OutputS
           h.1 ∙ number_is,
         )
 
--- ---- a library, from its first block on
+-- ---- a library, after its first block
 
 module _ (old start new : Position) (first lead : List ℕ) (finds : Finds old start first lead) (stage : Stage)
     (output middle output' : OutputState) (accepts : AcceptsPart Between 0 first (length lead) output middle (Ok stage)) where

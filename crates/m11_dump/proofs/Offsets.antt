@@ -17,7 +17,7 @@ given_room read old new Passes stops = omega (arith, stops.1.1.room, stops.1.2.3
 given_room read old new (Refuses fault) stops = stops.1.room
 given_room read old new Never stops = absurd stops
 
--- what was given in two parts is what was read
+-- if bytes were read in two parts, their number is the number of bytes read
 pub read_is : (old here new : Position) (before given : List ℕ) → old.room ≡ 4194304 → Took old here before
     → here.room ≡ length given + new.room → count_read new ≡ length (before ++ given)
 read_is old here new before given whole took room = omega (arith, whole, took.room, room, length-append before given)

@@ -22,7 +22,7 @@ use Rattle.m11_dump.specs.declared.fault.LocatedFault.{LocatedFault}
 use Rattle.m11_dump.specs.declared.stand.Stand.{Stand}
 use Rattle.m11_dump.specs.declared.view.View.{View}
 
--- ---- one block more
+-- ---- one more block
 
 records_more : (contents : List (List ℕ)) (content : List ℕ)
     → records_of (contents ++ content ∷ []) ≡ records_of contents ++ (kept (content_of content) ++ [])
@@ -43,7 +43,8 @@ all_more (first ∷ contents) content all one = (all.0, all_more contents conten
 
 -- ---- how far a dump has come
 
--- these blocks were given, and all that is known was shown; the dump stands after them; the room bounds how many there are, and how large
+-- these blocks were read, and everything before the pending text was shown; the dump has this state after them; the number of bytes
+-- that may still be read bounds the number of blocks
 pub record Dumping (view : View) (old here : Position) (output output' : OutputState) (s : Stand) (known : RulesState) (contents : List (List ℕ))
     : Type 0 where
   pub gives : GivesRecords old here contents
@@ -79,7 +80,7 @@ dump_begins view old output s known room address blocks held none = rw (address,
   few = omega (arith, room);
 })
 
--- a block is some bytes
+-- no block is read from no bytes
 none_is_no_block : (content rest : List ℕ) → first_block [] ≡ Ok (content, rest) → ⊥
 unfolding first_block
 none_is_no_block content rest e = cc
@@ -91,7 +92,7 @@ some_given (byte ∷ given) content is = omega arith
 pub room_falls : (here there : Position) (content : List ℕ) → Reads first_block here there content → there.room < here.room
 room_falls here there content r = omega (arith, some_given r.given content r.is, r.took.room)
 
--- a reader that gave a result goes on
+-- a reader that returned a result hasn't failed
 pub reads_on : {X : Type 0} (has_failed : Bool) (returned : X) → (IsTrue has_failed ↔ IsErr {E = BlockFault} (Ok returned))
     → has_failed ≡ false
 reads_on false returned h = refl
@@ -111,7 +112,7 @@ module _ (view : View) (old here : Position) (output output' : OutputState) (s :
   number_is : s.blocks + 1 ≡ length contents + 1
   number_is = ap (λ (n : ℕ). n + 1) d.counts
 
-  -- the texts of all blocks, and of one more
+  -- the texts of all blocks are those written and those of the pending text
   all_held : object_texts view contents ≡ d.put ++ texts_held view s.address s.held
   all_held = ap (λ (l : List Content). texts_from view (point 0 0 false) l) (sym (append-nil (records_of contents))) ∙ d.leads []
 
@@ -149,7 +150,7 @@ module _ (view : View) (old here : Position) (output output' : OutputState) (s :
   next_lacked content final r = lacked_after output output' final (object_texts view (contents ++ content ∷ [])) d.put
       (texts_next view s.address s.held content) (all_next content) d.gained r
 
-  -- what is held couldn't be shown
+  -- if the pending text can't be shown, the dump stops for that reason
   last_fails : (new : Position) (final : OutputState) (inner : DumpFault) (count : ℕ) → count ≡ count_read new
       → PutsTexts {A = Unit {0}} (texts_held view s.address s.held) output' final (Err inner)
       → StopsAfter view inner here new output final contents d.gives.given count

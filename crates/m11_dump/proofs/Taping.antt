@@ -41,7 +41,7 @@ byte_is (b ∷ given) byte e =
 byte_took : (old new : Position) (byte : ℕ) → Reads data_byte old new byte → Took old new (byte ∷ [])
 byte_took old new byte r = subst (λ (given : List ℕ). Took old new given) (byte_is r.given byte (r.is [])) r.took
 
--- some bytes of the open block were taken
+-- the first `index` bytes of the data of the open block were read
 pub record Taking (old here : Position) (address count index : ℕ) (stage : TapeStage) (taken : List ℕ) : Type 0 where
   pub long : length taken ≡ index
   pub took : Took old here taken
@@ -91,14 +91,14 @@ module _ (old here : Position) (address count index : ℕ) (stage : TapeStage) (
         t.stands ∙ ap (λ (n : ℕ). opened address n taken) long ∙ opened_all address taken,
       )
 
--- a put that names its fault
+-- if a text is written with `Write` as the fault of a failed output, it is put as the definition of a dump says
 pub puts_as : (text : List ℕ) (old new : OutputState) (result : Result (Unit {0}) DumpFault)
     → writes.Puts old new text fault.Write result → Puts text old new result
 puts_as text old new (Ok done) p = p
 puts_as text old new (Err f) p =
     let P : DumpFault → Type 0 = λ x. FailsToPut text old new x in subst P (sym p.0) (p.1, p.2)
 
--- ---- parts of the code
+-- ---- the pending block and the transfer block are shown
 
 pub none_shown : (view : TapeView) (held : Option Held) (after : List ℕ) (count : ℕ) (output : OutputState) → held ≡ None
     → ShowsHeld view held after count output output (Ok 0)
@@ -127,7 +127,7 @@ ends_shown view held address passed count n output middle output' shown outcome 
     let P : Result ℕ LocatedFault → Type 0 = λ x. ShowsHeld view held [] count output middle x in
     (Ok n, middle, subst P is s, e)
 
--- ---- one block more
+-- ---- one more block
 
 after_more : (read : Reader) (blocks : List (ℕ × List ℕ)) (address : ℕ) (content : List ℕ)
     → part_after read (blocks ++ (address, content) ∷ []) ≡ next_part (total_of address content)
@@ -161,7 +161,7 @@ texts_long view shown [] = refl
 texts_long view shown (block ∷ blocks) =
     ap (λ (n : ℕ). suc n) (texts_long view (over view shown block (beyond block blocks)) blocks)
 
--- ---- the block that is held
+-- ---- the pending block
 
 abbrev held_texts : TapeView → Option Held → List ℕ → List (List ℕ)
 held_texts view None after = []
@@ -171,7 +171,7 @@ abbrev over_of : TapeView → Option Held → List ℕ → ℕ
 over_of view None after = 0
 over_of view (Some held) after = held_over view held after
 
--- so many texts were put before it
+-- this many blocks come before the pending block, if there is one
 abbrev HeldAt : Option Held → ℕ → Type 0
 HeldAt None count = ⊤
 HeldAt (Some held) count = held.before ≡ count
@@ -224,9 +224,9 @@ is_tape blocks start a b c given took held last =
     tape_framed blocks start (given ++ last.given) (bytes_then given last.given took.bytes last.took.bytes)
     (are_read first_part blocks start given last.given held last.is)
 
--- ---- where a dump stands
+-- ---- how far a dump has come
 
--- the reader reads the next part so
+-- at this stage, the reader reads the next part with this function
 abbrev IsBeforePart : TapeStage → Reader → Type 0
 IsBeforePart BeforeBlock read = read ≡ first_part
 IsBeforePart (InBlock left total) read = (left ≡ 0) × (read ≡ next_part total)
@@ -241,7 +241,7 @@ next_is (InBlock left total) read old new after result stands r = rw stands.1 r
 next_is (AtEnd address) read old new after result stands r = absurd stands
 next_is AfterFault read old new after result stands r = absurd stands
 
--- these blocks were given, and all were shown but for the one that is held; the reader stands before the part after them
+-- these blocks were read, and all but the pending one were shown; the reader is about to read the part after them
 pub record Taping (view : TapeView) (old here : Position) (output output' : OutputState) (stage : TapeStage) (passed : ℕ)
     (held : Option Held) (blocks : List (ℕ × List ℕ)) : Type 0 where
   pub gives : GivesBlocks old here blocks
@@ -283,7 +283,7 @@ none_left (InBlock left total) read stands = stands.0
 none_left (AtEnd address) read stands = refl
 none_left AfterFault read stands = refl
 
--- a text was not shown, after these were put
+-- if one of the last two texts can't be written after the texts in `put`, the dump stops for that reason
 module _ (view : TapeView) (old here new : Position) (output output' final : OutputState) (blocks : List (ℕ × List ℕ))
     (gives : GivesBlocks old here blocks) (put others texts : List (List ℕ)) (gained : Gained (concat put) output output')
     (read : TextsRead view blocks here new texts) (last : length others ≤ 1) where
@@ -339,7 +339,7 @@ module _ (view : TapeView) (old here new : Position) (output output' final : Out
   text_refused text before all number (fault.Rule inner) p = absurd p
   text_refused text before all number (fault.Tape inner) p = absurd p
 
-  -- that of the block that is held
+  -- if the pending block can't be shown, the dump stops for that reason
   held_refused : (held : Option Held) (after : List ℕ) (said : LocatedFault)
       → texts ≡ put ++ (held_texts view held after ++ others) → HeldAt held (length put)
       → ShowsHeld view held after (count_read new) output' final (Err said) → DumpsTape view old new output final (Err said)
@@ -359,7 +359,7 @@ module _ (view : TapeView) (old here : Position) (output output' : OutputState) 
   pub held_fits : HeldFits held
   held_fits = d.fits
 
-  -- the texts of all blocks, if nothing goes on beyond the last one
+  -- if no bytes continue the last block, the texts of all blocks are those written and that of the pending block
   ended : block_texts view blocks ≡ d.put ++ held_texts view held []
   ended = ap (λ (l : List (ℕ × List ℕ)). texts_from view 0 l) (sym (append-nil blocks)) ∙ d.leads []
       ∙ ap (λ (l : List (List ℕ)). d.put ++ l) (leads_end view held)
@@ -568,7 +568,7 @@ module _ (view : TapeView) (old here : Position) (output output' : OutputState) 
             held_refused view old end end output output' final all gives_all d.put others (block_texts view all) d.gained
             (inl refl) one held (held_beyond held (address, bytes)) said texts d.number s
 
-        -- the block that is held then
+        -- the new pending block
         module _ (n : ℕ) (next : Held) (at : next.address ≡ address) (with : next.bytes.items ≡ bytes) (over : next.shown ≡ n)
             (number : next.before ≡ passed) (fits : count ≤ 65529)
             (s : ShowsHeld view held (held_beyond held (address, bytes)) (count_read end) output' final (Ok n)) where

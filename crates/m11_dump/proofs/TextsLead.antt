@@ -1,4 +1,4 @@
--- The text that is held, and the record after it.
+-- The pending text, and the record after it.
 use Rattle.std.proofs.Common.{◌≡◌, ◌∙◌, ℕ, ◌<◌, ◌≤◌, Bool, true, false, List, [], ◌∷◌, ◌++◌, append-nil, append_assoc, length, length-append, Option, Some, None, Ok, Err, refl, sym, ap, subst, arith}
 use Rattle.std.specs.Prelude.{if◌then◌else◌, is_none, option_map}
 use Rattle.std.specs.List.{concat}
@@ -98,7 +98,7 @@ plain_before view address (Relocations relocations) more other = refl
 plain_before view address InternalSymbols more other = refl
 plain_before view address EndOfModule more other = refl
 
--- ---- what is held, at the end, before a text, and before another record
+-- ---- the pending text at the end, before another text, and before another record
 
 pub held_last : (view : View) (address : ℕ) (held : Option HeldText) → texts_held view address held ≡ own_texts view held []
 held_last view address None = refl
@@ -122,7 +122,7 @@ other_before view address (Some held) next more other at =
     ≡ own_texts view (Some held) [] ++ (record_lines a next ∷ texts_from view (point (address_after a next) 0 false) more) in
     subst P at (record_after view address held.address held.shown held.bytes.items (places_in held) next more other)
 
--- ---- what is held was shown, or wasn't
+-- ---- the pending text was shown, or couldn't be
 
 pub held_gained : (view : View) (held : Option HeldText) (after : List ℕ) (output output' : OutputState) (n : ℕ)
     → ShowsHeld view held after output output' (Ok n)
@@ -174,7 +174,7 @@ held_fails view (Some held) after others texts output output' f one is s =
     omega (arith, one, rest_few (places_in held), length-append (rest_texts (places_in held)) others) in
     subst P (sym is) (text_fails (held_lines view held after) (rest_texts (places_in held)) others output output' f few s)
 
--- ---- a text is taken
+-- ---- a text is accepted
 
 records_as : (own own' : ℕ) (bytes bytes' : List ℕ) (places places' : Option (List Relocation)) → own ≡ own' → bytes ≡ bytes'
     → places ≡ places' → Text own bytes ∷ places_records places ≡ Text own' bytes' ∷ places_records places'
@@ -232,7 +232,7 @@ module _ (view : View) (address : ℕ) (held : Option HeldText) (content : List 
         own_is ∙ at,
       )
 
--- ---- another record is taken
+-- ---- another record is accepted
 
 module _ (view : View) (address : ℕ) (held : Option HeldText) (content : List ℕ) (other : IsOther held content) (at : HeldAt address held)
     (output : OutputState) where
@@ -315,7 +315,7 @@ module _ (view : View) (address : ℕ) (held : Option HeldText) (content : List 
           tt,
         )
 
--- ---- relocations are held with their text
+-- ---- relocations stay pending with their text
 
 module _ (view : View) (address : ℕ) (text : HeldText) (content : List ℕ) (relocations : List Relocation)
     (is : kept (content_of content) ≡ Relocations relocations ∷ []) (output : OutputState) (none : places_in text ≡ None) where
@@ -367,7 +367,7 @@ last_refused view address held output output' f s =
     held_fails view held [] [] (texts_held view address held) output output' f none
     (held_last view address held ∙ sym (append-nil (own_texts view held []))) s
 
--- a value that isn't there
+-- if an option is None, it stays None when a function is applied to it
 pub none_mapped : {A B : Type 0} (f : A → B) (o : Option A) → is_none o ≡ true → option_map f o ≡ None
 none_mapped f None e = refl
 none_mapped f (Some x) e = absurd cc

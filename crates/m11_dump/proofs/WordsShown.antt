@@ -13,7 +13,7 @@ two_left bytes index h =
     one ∙ ap (λ (left : List ℕ). get_or bytes index 0 ∷ left)
     (two ∙ ap (λ (i : ℕ). get_or bytes (index + 1) 0 ∷ drop i bytes) same)
 
--- two more bytes are shown
+-- after two more bytes are shown as a word, the text so far and that of the remaining bytes still make the whole text
 pub word_shown : (all now later bytes : List ℕ) (address index : ℕ) → index + 1 < length bytes
     → now ++ words_from address index (drop index bytes) ≡ all
     → later ≡ now ++ word_cell address index (get_or bytes index 0 + 256 * get_or bytes (index + 1) 0)
@@ -24,7 +24,7 @@ word_shown all now later bytes address index h leads is =
     let rest = words_from address (index + 2) (drop (index + 2) bytes) in
     ap (λ (text : List ℕ). text ++ rest) is ∙ append_assoc now cell rest ∙ subst P (two_left bytes index h) leads
 
--- the last one, and none
+-- a last single byte is shown as a byte; without further bytes, nothing is added
 pub last_shown : (bytes : List ℕ) (address index byte : ℕ) → slice_get bytes index ≡ Some byte → length bytes ≤ index + 1
     → words_from address index (drop index bytes) ≡ byte_cell address index byte
 last_shown bytes address index byte e h =

@@ -1,6 +1,6 @@
--- The bytes of an object's text as instructions, with its relocations beside them: each after the line of the byte that it applies
--- to, and after all lines those that apply to none. (What a relocation applies to: RT-11 Volume and File Formats Manual, "Object
--- file format", RLD block. The lines are this project's own.)
+-- The bytes of an object's text as instructions, with its relocations beside them: a relocation that applies to a byte of the text
+-- follows the line that shows this byte, and the other relocations follow all lines. (What a relocation applies to: RT-11 Volume and
+-- File Formats Manual, "Object file format", RLD block. The lines are this project's own.)
 use Rattle.std.specs.Prelude.{ℕ, zero, suc, ◌+◌, ◌-◌, ◌==◌, Bool, false, if◌then◌else◌, nat_le, nat_lt, List, [], ◌∷◌, ◌++◌}
 use Rattle.std.specs.List.{flat_map}
 use Rattle.m11_base.specs.Devices.{Bytes}
@@ -11,19 +11,21 @@ use Rattle.m11_dump.specs.Relocations.{relocation_line, stores}
 
 -- ---- the bytes that relocations apply to
 
--- whether the value that a relocation stores begins at the byte with this index in its text, whose first byte has displacement 4
+-- whether a relocation stores a value that begins at the byte with this index in its text; the first byte of the text has displacement
+-- 4
 abbrev pub names_byte : ℕ → Relocation → Bool
 names_byte index relocation = if stores relocation.target then relocation.displacement == index + 4 else false
 
--- the line of a relocation of the text at this address, if its value begins at the byte with this index
+-- the line of a relocation of the text at this address, if the value that it stores begins at the byte with this index; otherwise
+-- nothing
 abbrev pub place_at : ℕ → ℕ → Relocation → Bytes
 place_at address index relocation = if names_byte index relocation then relocation_line address relocation else []
 
--- the lines of all these relocations whose values begin at the byte with this index
+-- the lines of those relocations whose values begin at the byte with this index, in the order of the list
 abbrev pub places_at : ℕ → List Relocation → ℕ → Bytes
 places_at address relocations index = flat_map (place_at address index) relocations
 
--- whether the value that a relocation stores begins at one of the first `count` bytes of its text
+-- whether a relocation stores a value that begins at one of the first `count` bytes of its text
 abbrev pub names_any : ℕ → Relocation → Bool
 names_any count relocation =
     if stores relocation.target then (if nat_le 4 relocation.displacement then nat_lt relocation.displacement (count + 4) else false)
@@ -39,18 +41,20 @@ other_places address count relocations = flat_map (other_place address count) re
 
 -- ---- lines of instructions with other lines among them
 
--- the line that begins with the first of these bytes at this location; nothing if the previous line shows that byte
+-- the line that begins with the first of these bytes, which lies at this location; nothing if the previous line shows that byte
 abbrev pub line_at : ℕ → ℕ → Bytes → Bytes
 line_at location zero bytes = line_text [] location bytes
 line_at location (suc shown) bytes = []
 
--- how many of the bytes after the first one this line or the previous one shows
+-- how many of the bytes after the first one are shown by the line that shows the first one: the line that begins there, or the previous
+-- line
 abbrev pub left_at : ℕ → ℕ → Bytes → ℕ
 left_at location zero bytes = front_size location bytes - 1
 left_at location (suc shown) bytes = shown
 
--- the lines that begin at these bytes, where the first byte has this index. At each byte the line that begins there, if any, is followed by
--- the lines of `others` for the byte's index. The previous line shows the first `shown` bytes, and `beyond` follows the bytes
+-- the lines that begin among these bytes, with other lines among them: at each byte the line that begins there, if any, is followed by
+-- the lines of `others` for the byte's index. The first byte has this index, the previous line shows the first `shown` bytes, and
+-- `beyond` follows the bytes
 abbrev pub lines_beside : (ℕ → Bytes) → ℕ → ℕ → ℕ → Bytes → Bytes → Bytes
 lines_beside others address index shown [] beyond = []
 lines_beside others address index shown (byte ∷ bytes) beyond =

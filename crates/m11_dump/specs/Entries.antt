@@ -34,13 +34,14 @@ weak_word flags = if has_bits 0o001 flags then codes " WEAK" else []
 abbrev pub value_text : ℕ → Bytes
 value_text value = 32 ∷ octal_text value
 
--- what follows the name of a global symbol: its value, relocatable or absolute, if it is defined here, and the keyword of a weak
--- one
+-- what follows the name of a global symbol: its value and whether that is relocatable or absolute, if it is defined here; and a
+-- keyword if it is weak
 abbrev pub symbol_text : ℕ → ℕ → Bytes
 symbol_text flags value =
     (if has_bits 0o010 flags then value_text value ++ relocation_word flags else []) ++ weak_word flags
 
--- what follows the name of an entry: a value and keywords by its flags, if its kind has them
+-- what follows the name of an entry: its value and the keywords of its flags, if its kind has them; a reference to a global symbol has
+-- no value
 abbrev pub entry_rest : GsdKind → ℕ → ℕ → Bytes
 entry_rest ModuleName flags value = []
 entry_rest ControlSection flags value = value_text value
@@ -50,7 +51,7 @@ entry_rest GlobalSymbol flags value = symbol_text flags value
 entry_rest ProgramSection flags value = (value_text value ++ 32 ∷ []) ++ attributes_text flags
 entry_rest Identification flags value = []
 
--- the line of an entry: its keyword and its name, then its value and its flags in words if its kind has them; without blanks at its end
+-- the line of an entry: its keyword, its name, and what follows the name; without blanks at the end of the line
 abbrev pub entry_line : GsdEntry → Bytes
 entry_line entry = line_of ((entry_word entry.kind entry.flags ++ name_text entry.name)
     ++ entry_rest entry.kind entry.flags entry.value)

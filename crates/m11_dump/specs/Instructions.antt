@@ -1,7 +1,7 @@
--- The bytes of an object's text or of a tape's block as instructions, one to a line: a location, its words, their line of source,
--- and as a comment the name of the location if it has one. A byte at an odd location is a byte of data, and so is a single last
--- byte. The last line may continue into bytes beyond the text or block. (PDP-11/40 Processor Handbook, "Instruction set"; MACRO-11
--- Language Reference Manual, "Addressing modes". The lines are this project's own.)
+-- The bytes of an object's text or of a tape's block as instructions, one to a line: a location, the bytes there, their line of
+-- source, and a comment that names the location by the nearest global at or below it, if there is one. A byte at an odd location is
+-- a byte of data, and so is a single last byte. The last line may continue into bytes beyond the text or block. (PDP-11/40
+-- Processor Handbook, "Instruction set"; MACRO-11 Language Reference Manual, "Addressing modes". The lines are this project's own.)
 use Rattle.std.specs.Prelude.{◌≡◌, ◌<◌, ℕ, zero, suc, ◌+◌, ◌-◌, ◌*◌, ◌%◌, ◌==◌, if◌then◌else◌, List, [], ◌∷◌, ◌++◌, length, take, codes}
 use Rattle.m11_base.specs.Devices.{Bytes}
 use Rattle.m11_base.specs.Octal.{octal_text}
@@ -18,7 +18,7 @@ use Rattle.m11_dump.specs.Octets.{location_after, octal3}
 abbrev pub word_of : ℕ → ℕ → ℕ
 word_of low high = low + 256 * high
 
--- the first two words of these bytes, or as many as there are; no instruction has more after its first
+-- the first two words of these bytes, or as many as there are; an instruction has at most two words after its first one
 abbrev pub following : Bytes → List ℕ
 following [] = []
 following (a ∷ []) = []
@@ -42,7 +42,7 @@ front_size location (low ∷ high ∷ bytes) = if location % 2 == 0 then 2 * siz
 
 -- ---- the line of a statement
 
--- bytes as words, and a last single byte as a byte, each in octal after a blank
+-- bytes as words, and a single last byte as a byte, each in octal after a blank
 abbrev pub cells : Bytes → Bytes
 cells [] = []
 cells (byte ∷ []) = 32 ∷ octal3 byte
@@ -59,7 +59,8 @@ abbrev pub line_by : ℕ → Bytes → Bytes → Bytes
 line_by location shown source =
     ((((codes "  " ++ octal_text location) ++ cells shown) ++ gap (length shown)) ++ source) ++ 10 ∷ []
 
--- the source of the statement at this location, and as a comment the name of the location among these globals, if it has one
+-- the source of the statement at this location, and a comment that names the location by the nearest of these globals at or below it;
+-- no comment if there is no such global
 abbrev pub front_source : List Symbol → ℕ → Bytes → Bytes
 front_source symbols location bytes =
     statement_text (front_statement location bytes) ++ address_name (codes "\t;") symbols location
@@ -70,19 +71,19 @@ line_text symbols location bytes = line_by location (take (front_size location b
 
 -- ---- lines one after another
 
--- the line before the others: a keyword and an address
+-- the first line of a text or block: a keyword and an address
 abbrev pub head_line : Bytes → ℕ → Bytes
 head_line word address = (word ++ octal_text address) ++ 10 ∷ []
 
--- the lines that begin among these bytes, where the first byte has this index. The previous line shows the first `shown` bytes, and
--- `beyond` follows the bytes
+-- the lines that begin among these bytes, the first of which has this index in a text or block at this address. The previous line shows
+-- the first `shown` bytes, and `beyond` follows the bytes
 abbrev pub lines_from : List Symbol → ℕ → ℕ → ℕ → Bytes → Bytes → Bytes
 lines_from symbols address index shown [] beyond = []
 lines_from symbols address index zero (byte ∷ bytes) beyond = line_text symbols (location_after address index) ((byte ∷ bytes) ++ beyond)
     ++ lines_from symbols address (index + 1) (front_size (location_after address index) ((byte ∷ bytes) ++ beyond) - 1) bytes beyond
 lines_from symbols address index (suc shown) (byte ∷ bytes) beyond = lines_from symbols address (index + 1) shown bytes beyond
 
--- how many bytes of `beyond` the last of these lines shows
+-- how many bytes of `beyond` are shown by the last line that begins among these bytes, or by the previous line if none begins there
 abbrev pub over_from : ℕ → ℕ → ℕ → Bytes → Bytes → ℕ
 over_from address index shown [] beyond = shown
 over_from address index zero (byte ∷ bytes) beyond =
@@ -95,8 +96,8 @@ lines symbols address bytes = lines_from symbols address 0 0 bytes []
 
 -- ---- which bytes each line shows
 
--- a text of lines, each of which shows the next element of this list at its location, with a line of source; no element is empty, and
--- the elements together are the bytes
+-- the text consists of lines, each of which shows the next element of this list at its location, with a line of source; no element
+-- is empty, and the elements together are the bytes
 abbrev pub AreLines : ℕ → ℕ → List Bytes → Bytes → Bytes → Type 0
 AreLines address index [] bytes text = (bytes ≡ []) × (text ≡ [])
 AreLines address index (shown ∷ others) bytes text = (source : Bytes) × (rest : Bytes) × (more : Bytes)

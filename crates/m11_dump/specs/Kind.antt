@@ -1,8 +1,8 @@
 -- The kind of a file, by its first block. (This project's own.) Blocks of objects and of tapes have the same form, but a block of
--- an object begins with the type of its record, and one of a tape with an address. The linker accepts three types for a first
--- record: a directory, 1, its end, 2, or internal symbols, 5. A library begins with a record of type 7. No tape loads a word at 1,
--- 5 or 7, and a tape that starts at 2 has data before its transfer block. A tape with an odd start address, such as 1, may have no
--- data; but an object goes on after a directory without entries.
+-- an object begins with the type of its record, and one of a tape with an address. The linker accepts three types of a first
+-- record: 1 (a directory), 2 (the end of a directory) and 5 (internal symbols). A library begins with a record of type 7. No tape
+-- loads a word at 1, 5 or 7, and a tape that starts at 2 has data before its transfer block. A tape with an odd start address, such
+-- as 1, may have no data; but in an object further blocks follow a directory without entries.
 use Rattle.std.specs.Prelude.{◌≡◌, ℕ, Bool, true, false, ◌==◌, if◌then◌else◌, Result, Ok, Err}
 use Rattle.m11_obj_blocks.specs.Limited.{Position, most_bytes}
 use Rattle.m11_obj_blocks.specs.Tapes.{ReadsPart, first_part}
@@ -27,7 +27,7 @@ kind_by (Ok (Data address count)) = kind_by_data address
 kind_by (Ok (Start address)) = kind_by_start address
 kind_by (Err fault) = Object
 
--- ---- a first block of 1 and nothing else: a directory without entries, or the transfer block of a tape that has no data
+-- ---- a bare first block, with address 1 and no data: a directory without entries, or the transfer block of a tape that has no data
 
 abbrev pub is_bare : Result TapePart TapeFault → Bool
 is_bare (Ok (Data address count)) = false
@@ -48,7 +48,8 @@ IsKindAfter true first middle new kind = (next : Result TapePart TapeFault)
     × ReadsPart (λ part. part) first_part (record middle { room = most_bytes }) new next × (kind ≡ kind_by_next next)
 IsKindAfter false first middle new kind = (new ≡ middle) × (kind ≡ kind_by first)
 
--- the kind of a file: its first block is read up to its data, and the next one too if the first is bare
+-- the kind of a file: its first block is read up to its data, or up to its end if it has none; and the next block likewise, if the
+-- first is bare
 abbrev pub IsKind : Position → Position → Kind → Type 0
 IsKind old new kind = (first : Result TapePart TapeFault) × (middle : Position) × ReadsPart (λ part. part) first_part old middle first
     × IsKindAfter (is_bare first) first middle new kind

@@ -23,7 +23,7 @@ use Rattle.m11_dump.specs.declared.library_parts.Stage.TheVariants.{Between, Ove
 
 -- ---- what is shown
 
--- a line for each entry of a directory, and nothing of other blocks
+-- a line for each entry of a directory, and nothing for any other block
 abbrev pub lines_as : Part → Bytes → Bytes
 lines_as Directory content = flat_map entry_line (record_entries content)
 lines_as part content = []
@@ -31,7 +31,7 @@ lines_as part content = []
 abbrev pub block_lines : Bytes → Bytes
 block_lines content = lines_as (part_of content) content
 
--- the lines that are shown of blocks with these contents
+-- the lines of all blocks with these contents, in order
 abbrev pub library_text : List Bytes → Bytes
 library_text contents = flat_map block_lines contents
 
@@ -41,8 +41,8 @@ library_text contents = flat_map block_lines contents
 abbrev pub out_of_order : Bytes → ℕ → ℕ → LocatedFault
 out_of_order content blocks count = placed_at (fault.Rule rule.BadOrder) blocks (content_start content count)
 
--- why a block that ends after `count` bytes of the file was refused, and the byte that shows the reason: it isn't a valid record; or a
--- block of its type may not come there; or its lines couldn't be written; or memory was refused
+-- why a block that ends after `count` bytes of the file was refused, and the byte that shows the reason: it isn't a valid record; or it
+-- may not come at this stage; or its lines couldn't be written; or memory was refused
 abbrev pub RefusesPart : Stage → Bytes → ℕ → OutputState → OutputState → DumpFault → ℕ → Type 0
 RefusesPart stage content count output output' (fault.Record inner) byte = (is_read (part_of content) ≡ true)
     × (content_of content ≡ Err inner) × (output' ≡ output) × RecordShowsAt inner content count byte
@@ -61,7 +61,7 @@ AcceptsPart stage blocks content count output output' (Err said) =
 
 -- ---- one block after another
 
--- blocks with these contents may follow one another, and lead from the first stage to the second
+-- blocks with these contents are sound, may follow one another, and lead from the first stage to the second
 abbrev pub InOrder : Stage → List Bytes → Stage → Type 0
 InOrder stage [] after = stage ≡ after
 InOrder stage (content ∷ contents) after =
@@ -73,7 +73,7 @@ pub record GivesBlocks (old here : Position) (contents : List Bytes) : Type 0 wh
   pub took : Took old here given
   pub blocks : (rest : Bytes) → AreInFront contents (given ++ rest) rest
 
--- after these bytes of the file no further block could be read, or the file ends before the library does, and this byte shows it
+-- no further block could be read after these bytes of the file, or the file ended before the library did; this byte shows why
 abbrev pub LacksBlock : DumpFault → Position → Position → Bytes → ℕ → Type 0
 LacksBlock (fault.Block inner) here new before byte = StopsAt first_block (why_of inner) here new before byte
 LacksBlock (fault.Rule rule.BadOrder) here new before byte = StopsAt first_block EndsBetween here new before byte
@@ -87,8 +87,8 @@ StopsListing stage inner here new output output' contents before byte =
     ⊎ ((bad : Bytes) × (block : Reads first_block here new bad) × (middle : OutputState) × Gained (library_text contents) output middle
     × RefusesPart stage bad (length (before ++ block.given)) middle output' inner byte)
 
--- the blocks after the first one were shown, up to the library's end; or those before the first fault. `front` holds the bytes of the file
--- before them
+-- the blocks after the first one were shown, up to the library's end or up to the first fault. `front` holds the bytes of the file up
+-- to the end of the first block
 abbrev pub ListsBlocks : Bytes → Stage → Position → Position → OutputState → OutputState → Result (Unit {0}) LocatedFault → Type 0
 ListsBlocks front stage start new output output' (Ok done) = (contents : List Bytes)
     × GivesBlocks start new contents × InOrder stage contents Over × Gained (library_text contents) output output'
@@ -99,7 +99,7 @@ ListsBlocks front stage start new output output' (Err said) = (contents : List B
 
 -- ---- a library
 
--- the position after the first block, from which the limit on bytes counts anew
+-- the position after the first block, from which as many bytes may be read as from the beginning of a file
 abbrev pub again : Position → Position
 again here = record here { room = most_bytes }
 

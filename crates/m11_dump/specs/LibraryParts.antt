@@ -17,7 +17,7 @@ part_by code =
     if code == 1 then Directory else if code == 2 then Inner else if code == 3 then Inner else if code == 4 then Inner
     else if code == 5 then Inner else if code == 6 then ModuleEnd else if code == 8 then LibraryEnd else Other
 
--- the part that a block with this content is, according to its first word; Other without a whole word
+-- the part that a block with this content is, according to the content's first word; Other if the content has fewer than two bytes
 abbrev pub part_of : Bytes → Part
 part_of [] = Other
 part_of (byte ∷ []) = Other
@@ -29,7 +29,7 @@ abbrev pub is_module_name : GsdKind → Bool
 is_module_name ModuleName = true
 is_module_name kind = false
 
--- whether these entries begin a module: the first one is its name
+-- whether these entries begin a module: whether the first one is the module's name
 abbrev pub begins : List GsdEntry → Bool
 begins [] = false
 begins (entry ∷ entries) = is_module_name entry.kind
@@ -49,31 +49,32 @@ abbrev pub IsSoundAs : Part → Bytes → Type 0
 IsSoundAs Directory content = IsRecord content
 IsSoundAs part content = ⊤
 
--- a block with this content is sound as far as it is read: a directory must be a valid record
+-- a block with this content is sound: if it is a directory, it is a valid record
 abbrev pub IsSound : Bytes → Type 0
 IsSound content = IsSoundAs (part_of content) content
 
--- ---- the order: a module begins with a directory that names it, and ends with its end; the library's end follows the last module
+-- ---- the order: a module begins with a directory that names it, and ends with a record of type 6; the library's end follows the last
+-- module
 
--- the stage after a directory; None where it may not come: between modules if it names none, and after the library's end
+-- the stage after a directory; None where it may not come: between modules if it names no module, and after the library's end
 abbrev pub after_directory : Stage → Bool → Option Stage
 after_directory Between named = if named then Some Inside else None
 after_directory Inside named = Some Inside
 after_directory Over named = None
 
--- the stage after another record of a module; None if the record isn't inside one
+-- the stage after another record of a module: `next` if the record is inside a module, otherwise None
 abbrev pub after_inner : Stage → Stage → Option Stage
 after_inner Between next = None
 after_inner Inside next = Some next
 after_inner Over next = None
 
--- the stage after the library's end; None if that doesn't come between modules
+-- the stage after the library's end; None unless the end comes between modules
 abbrev pub after_end : Stage → Option Stage
 after_end Between = Some Over
 after_end Inside = None
 after_end Over = None
 
--- the stage after a record; None if one of its type may not come there
+-- the stage after a record of this part; None if it may not come at this stage. `named` says whether a directory names a module
 abbrev pub stage_of : Stage → Part → Bool → Option Stage
 stage_of stage Directory named = after_directory stage named
 stage_of stage Inner named = after_inner stage Inside

@@ -1,5 +1,5 @@
--- Where the modules of a library begin: at the first block whose type is that of a module's record, or of the library's end. What
--- is before it is skipped: the record with which the library begins, its table of globals, and padding. (This project's own.)
+-- Where the modules of a library begin: at the first block whose type is that of a module's record, or of the library's end. Everything
+-- before this block is skipped: the record with which the library begins, its table of globals, and padding. (This project's own.)
 use Rattle.std.specs.Prelude.{◌≡◌, ℕ, ◌≤◌, [], ◌∷◌, ◌++◌, length, Result, Ok, Err}
 use Rattle.m11_base.specs.Devices.{Bytes, Rises}
 use Rattle.m11_base.specs.Feed.{GivesByte, GivesEnd, GivesFailure}
@@ -58,7 +58,7 @@ LacksByte old new other = ⊥
 abbrev pub nothing : Bytes → Read BlockFault Bytes
 nothing bytes = Err Between
 
--- the bytes ended, or no more of them could be read, as this byte shows, and no listed block lies in those that were read
+-- the bytes ended or couldn't be read further, the byte at this offset shows why, and no listed block lies in the bytes read
 abbrev pub Unfound : Why BlockFault → Position → Position → ℕ → Type 0
 Unfound why old new byte = (stops : StopsAt nothing why old new [] byte) × NoneIn (given_of nothing old new why stops.0)
 

@@ -1,5 +1,5 @@
 -- What a dump shows of an object: the lines of each of its records, one after another. A TXT record has its relocations beside it;
--- shown as instructions, it continues into the next TXT record of its section if that one begins at the next address. (The records:
+-- shown as instructions, it continues into the next TXT record of its section if that record begins where this one ends. (The records:
 -- RT-11 Volume and File Formats Manual, "Object file format". The lines are this project's own.)
 use Rattle.std.specs.Prelude.{ℕ, ◌==◌, Bool, true, false, if◌then◌else◌, List, [], ◌∷◌, ◌++◌, length, take, codes}
 use Rattle.std.specs.List.{concat, flat_map}
@@ -18,12 +18,12 @@ use Rattle.m11_dump.specs.declared.view.View.TheVariants.{Octal, Instructions}
 
 -- ---- what follows a text
 
--- the relocations of a text: those of the record after it, if that is a relocation record
+-- the relocations of a text: those of the record after it, if that is a relocation record; otherwise none
 abbrev pub places : List Content → List Relocation
 places (Relocations relocations ∷ records) = relocations
 places records = []
 
--- whether a relocation selects the section of the texts that follow
+-- whether a relocation with this target selects the section of the texts that follow
 abbrev pub selects : Target → Bool
 selects (LocationCounterDefinition name constant) = true
 selects target = false
@@ -33,8 +33,8 @@ abbrev pub stays : List Relocation → Bool
 stays [] = true
 stays (relocation ∷ relocations) = if selects relocation.target then false else stays relocations
 
--- the first five bytes of the next text, if it begins at the address after this one, otherwise none; five are enough, since no
--- instruction is longer than six bytes
+-- the first five bytes of the next text, or all if it has fewer, if the next text begins where this one ends; otherwise none. Five are
+-- enough, since no instruction is longer than six bytes
 abbrev pub next_bytes : ℕ → Bytes → List Content → Bytes
 next_bytes address bytes (Text own next ∷ records) = if own == location_after address (length bytes) then take 5 next else []
 next_bytes address bytes records = []
@@ -46,15 +46,15 @@ beyond address bytes records = next_bytes address bytes records
 
 -- ---- a text and its relocations
 
--- the lines of a text whose first `shown` bytes the previous text shows: in octal, followed by its relocations; or as instructions,
--- each relocation after the line of the byte that it applies to, and last those that apply to none
+-- the lines of a text whose first `shown` bytes are in the lines of the previous text: in octal, followed by its relocations; or as
+-- instructions, with each relocation after the line of the byte that it applies to, and at the end those that apply to none
 abbrev pub text_lines : View → ℕ → ℕ → Bytes → List Relocation → Bytes → Bytes
 text_lines Octal address shown bytes relocations after = octal_lines address bytes ++ flat_map (relocation_line address) relocations
 text_lines Instructions address shown bytes relocations after =
     (head_line (codes "TEXT ") address ++ lines_beside (places_at address relocations) address 0 shown bytes after)
     ++ other_places address (length bytes) relocations
 
--- how many bytes of the next text these lines show
+-- how many bytes of the next text are shown in the lines of a text
 abbrev pub text_over : View → ℕ → ℕ → Bytes → Bytes → ℕ
 text_over Octal address shown bytes after = 0
 text_over Instructions address shown bytes after = over_from address 0 shown bytes after
@@ -83,7 +83,7 @@ point_after view p (Text own bytes) records = point own (text_over view own p.sh
 point_after view p (Relocations relocations) records = point p.address (if p.beside then p.shown else 0) false
 point_after view p content records = point p.address 0 false
 
--- a list with the lines of each record
+-- a list with the lines of each of these records; `p` is the state before the first one
 abbrev pub texts_from : View → Point → List Content → List Bytes
 texts_from view p [] = []
 texts_from view p (content ∷ records) = text_of view p content records ∷ texts_from view (point_after view p content records) records

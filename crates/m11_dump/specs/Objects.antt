@@ -39,8 +39,8 @@ AreInFront (content ∷ contents) bytes rest =
 abbrev pub ends_module : Bytes → Bool
 ends_module content = elim (content_of content) [ Ok EndOfModule ↦ true | _ ↦ false ]
 
--- the parts of the module that is open after a block, given those before the block; after the end of a module none is open, so each module
--- is judged as if it were alone
+-- the parts of the module that is open after a block, given those of the module that is open before it; after the end of a module no
+-- module is open, so each module is checked as if it were alone
 abbrev pub open_after : List Part → Bytes → List Part
 open_after parts content = if ends_module content then [] else parts ++ record_parts content
 
@@ -49,7 +49,7 @@ abbrev pub open_parts : List Part → List Bytes → List Part
 open_parts parts [] = parts
 open_parts parts (content ∷ contents) = open_parts (open_after parts content) contents
 
--- none of these blocks breaks a rule, each judged after the parts of its module that come before it
+-- none of these blocks breaks a rule, if each is checked after the parts of its module that come before it
 abbrev pub FollowRules : List Part → List Bytes → Type 0
 FollowRules parts [] = ⊤
 FollowRules parts (content ∷ contents) =
@@ -65,15 +65,15 @@ pub record GivesRecords (old here : Position) (contents : List Bytes) : Type 0 w
 
 -- ---- writing
 
--- the output failed after part of a text was written
+-- the output failed after a prefix of the text was written, perhaps none or all of it
 abbrev pub FailsAt : Bytes → OutputState → OutputState → Type 0
 FailsAt text output output' = AppendsBeginning output.text output'.text text × Rises output.faults output'.faults
 
--- a text was written, and the output didn't fail
+-- the whole text was written, and the output didn't fail
 abbrev pub Gained : Bytes → OutputState → OutputState → Type 0
 Gained text output output' = Appends output.text output'.text text × (output'.faults ≡ output.faults)
 
--- the output failed after part of a text was written, or memory was refused for the text
+-- the output failed after a prefix of the text was written; or memory was refused for the text, and nothing was written
 abbrev pub FailsToPut : Bytes → OutputState → OutputState → DumpFault → Type 0
 FailsToPut text output output' fault.Write = FailsAt text output output'
 FailsToPut text output output' fault.NoMemory = output' ≡ output
@@ -114,14 +114,15 @@ abbrev pub RecordTexts : View → List Bytes → Position → Position → List 
 RecordTexts view contents here new texts = (texts ≡ object_texts view contents)
     ⊎ ((last : Bytes) × Reads first_block here new last × IsRecord last × (texts ≡ object_texts view (contents ++ last ∷ [])))
 
--- memory was refused for a name that the next record adds, after everything was shown
+-- the record after these contents was read, and all texts up to and including its own were written; then memory was refused for a name
+-- that the record adds
 abbrev pub LacksName : View → List Bytes → Position → Position → OutputState → OutputState → Type 0
 LacksName view contents here new output output' = (last : Bytes) × Reads first_block here new last × IsRecord last
     × Gained (object_text view (contents ++ last ∷ [])) output output'
     × StopsAtName (first_fault (open_parts [] contents)) (record_parts last)
 
--- the block after these contents is a record that breaks a rule of modules, and all texts up to its own were written; the first byte
--- of its content shows the fault
+-- the block after these contents is a record that breaks a rule of modules, and all texts up to and including its own were written;
+-- the first byte of its content shows the fault
 abbrev pub RecordBreaks : View → ModuleFault → Position → Position → OutputState → OutputState → List Bytes → Bytes → ℕ → Type 0
 RecordBreaks view inner here new output output' contents before byte =
     (bad : Bytes) × (block : Reads first_block here new bad) × IsRecord bad
@@ -204,7 +205,7 @@ held_beyond (Some held) next = beyond held.address held.bytes.items (places_reco
 abbrev pub held_lines : View → HeldText → Bytes → Bytes
 held_lines view held after = text_lines view held.address held.shown held.bytes.items (held_places (places_in held)) after
 
--- how many of the bytes that continue the pending text its lines show
+-- how many of the bytes that continue the pending text are shown by its lines
 abbrev pub held_over : View → HeldText → Bytes → ℕ
 held_over view held after = text_over view held.address held.shown held.bytes.items after
 
@@ -255,14 +256,15 @@ PutsTexts texts output output' (Err (fault.Rule inner)) = ⊥
 PutsTexts texts output output' (Err (fault.Tape inner)) = ⊥
 
 -- these texts are exactly what is shown between two states of the pending text, the second of which follows a record with this
--- content; this holds for any records after it
+-- content; this holds whatever records come after that record
 abbrev pub LeadsOn : View → ℕ → Option HeldText → Bytes → Option HeldText → List Bytes → Type 0
 LeadsOn view address held content held' put = (more : List Content)
     → texts_from view (point_of address held) (held_records held ++ (kept (content_of content) ++ more))
     ≡ put ++ texts_from view (point_of (address_then address (content_of content)) held') (held_records held' ++ more)
 
--- a record was accepted: everything before the text that is pending afterwards was shown, and that text fits a block and lies at the
--- address of the last text read; or not everything could be shown, for the reason that the fault gives
+-- a record was accepted: everything was shown that comes before the text that is pending afterwards, or everything if no text is
+-- pending then; a pending text fits a block and lies at the address of the last text read. Or not everything could be shown, for the
+-- reason that the fault gives
 abbrev pub Takes : View → ℕ → Option HeldText → Bytes → OutputState → OutputState → Result (Option HeldText) DumpFault → Type 0
 Takes view address held content output output' (Ok held') = (put : List Bytes) × Gained (concat put) output output'
     × LeadsOn view address held content held' put × HeldFits held' × HeldAt (address_then address (content_of content)) held'
@@ -281,8 +283,8 @@ Judges parts known content blocks count (Ok done) = IsJudged parts known content
 Judges parts known content blocks count (Err said) = (inner : ModuleFault) × AcceptsAfter parts known (record_parts content) (Err inner)
     × (said ≡ placed_at (of_rule inner) blocks (rule_byte inner content count))
 
--- the end of the file was checked after these parts: the file may end there; or that breaks a rule, and the error is in the block
--- after `blocks` blocks
+-- the end of the file was checked after these parts: the file may end there; or its end breaks a rule, and the error is in the
+-- block after `blocks` blocks
 abbrev pub JudgesEnd : List Part → ℕ → ℕ → Result (Unit {0}) LocatedFault → Type 0
 JudgesEnd parts blocks count (Ok done) = first_fault parts (EndOfFile ∷ []) ≡ None
 JudgesEnd parts blocks count (Err said) = (inner : ModuleFault) × (first_fault parts (EndOfFile ∷ []) ≡ Some inner)

@@ -17,7 +17,7 @@ abbrev pub line_start : ℕ → ℕ → Bytes
 line_start address index =
     if index % 8 == 0 then codes "\n  " ++ octal_text (location_after address index) else []
 
--- the text of the byte at this index: the beginning of its line if it is the first one there, a blank and its digits
+-- the text of the byte at this index: a blank and its three digits, after the beginning of a line if the byte is the first of a line
 abbrev pub octet : ℕ → ℕ → ℕ → Bytes
 octet address index byte = line_start address index ++ 32 ∷ octal3 byte
 

@@ -31,7 +31,7 @@ abbrev pub stop_byte : {Fault : Type 0} → Why Fault → ℕ → ℕ
 stop_byte (Refuses fault) count = count - 1
 stop_byte why count = count
 
--- a call stopped after these bytes of the file and those that it read itself, and this byte shows why
+-- a call that began after the bytes `before` of the file stopped for this reason, and the byte at the offset `byte` shows the reason
 abbrev pub StopsAt : {Fault A : Type 0} → (Bytes → Read Fault A) → Why Fault → Position → Position → Bytes → ℕ → Type 0
 StopsAt read why here new before byte = (stops : Stops read here new why)
     × (byte ≡ stop_byte why (length (before ++ given_of read here new why stops)))
@@ -71,8 +71,8 @@ abbrev pub of_rule : ModuleFault → DumpFault
 of_rule rule.NoMemory = fault.NoMemory
 of_rule inner = fault.Rule inner
 
--- the offset of the byte that shows that a record breaks a rule, if its block ends after `count` bytes of the file: the first byte
--- of its content; for lack of memory it is the number of bytes read
+-- the offset of the byte that shows that a record breaks a rule, if its block ends after `count` bytes of the file: that of the first
+-- byte of its content. If memory was refused, it is the number of bytes read
 abbrev pub rule_byte : ModuleFault → Bytes → ℕ → ℕ
 rule_byte rule.NoMemory content count = count
 rule_byte inner content count = content_start content count
@@ -83,12 +83,12 @@ rule_byte inner content count = content_start content count
 abbrev pub count_read : Position → ℕ
 count_read location = most_bytes - location.room
 
--- the offset of the byte that shows a fault, after `count` bytes; a fault that no byte shows is placed after them
+-- the offset of the byte that shows a fault of a block or of a tape, after `count` bytes of the file; `count` for any other fault
 abbrev pub fault_byte : DumpFault → ℕ → ℕ
 fault_byte (fault.Block inner) count = stop_byte (blocks.why_of inner) count
 fault_byte (fault.Tape inner) count = stop_byte (tapes.why_of inner) count
 fault_byte other count = count
 
--- this fault in the block after `blocks` blocks, at this byte of the file
+-- this fault in the block after `blocks` blocks, at this offset in the file
 abbrev pub placed_at : DumpFault → ℕ → ℕ → LocatedFault
 placed_at inner blocks byte = record { fault = inner; block = blocks + 1; byte = byte }

@@ -25,7 +25,7 @@ record_lines address (Relocations relocations) = flat_map (relocation_line addre
 record_lines address InternalSymbols = codes "INTERNAL SYMBOLS\n"
 record_lines address EndOfModule = codes "END OF MODULE\n"
 
--- the address of the last text after this record, which may be a text itself
+-- the address of the last text up to and including this record, where the last text before it lies at `address`
 abbrev pub address_after : ℕ → Content → ℕ
 address_after address (Text own bytes) = own
 address_after address content = address

@@ -44,7 +44,7 @@ target_text target = (target_word target ++ optional_name (parts_of target).name
 abbrev pub byte_word : Bool → Bytes
 byte_word is_byte = if is_byte then codes " BYTE" else []
 
--- the location that a displacement of 4 or more refers to in a text at this address
+-- the location that a displacement refers to in a text at this address; the first byte of the text has displacement 4
 abbrev pub location_of : ℕ → ℕ → ℕ
 location_of address displacement = (address + displacement + 65532) % 65536
 
@@ -54,7 +54,7 @@ stores (LocationCounterDefinition name constant) = false
 stores (LocationCounterModification constant) = false
 stores target = true
 
--- the location of a relocation of the text at this address, or blanks if it stores nothing
+-- the location of a relocation of the text at this address, in six octal digits; six blanks if the relocation stores nothing
 abbrev pub location_text : ℕ → Relocation → Bytes
 location_text address relocation =
     if stores relocation.target then octal_text (location_of address relocation.displacement) else codes "      "

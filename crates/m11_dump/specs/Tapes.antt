@@ -36,20 +36,20 @@ abbrev pub tape_view : View → List Symbol → TapeView
 tape_view Octal symbols = InOctal
 tape_view Instructions symbols = AsInstructions symbols
 
--- the bytes that continue a block: the first five of the next block, if it begins at the next address, otherwise none; five are enough,
--- since no instruction is longer than six bytes
+-- the bytes that continue a block: the first five of the next block, or all if it has fewer, if the next block begins where this one
+-- ends; otherwise none. Five are enough, since no instruction is longer than six bytes
 abbrev pub beyond : ℕ × Bytes → List (ℕ × Bytes) → Bytes
 beyond block [] = []
 beyond block (next ∷ blocks) = if next.0 == location_after block.0 (length block.1) then take 5 next.1 else []
 
--- the text of a data block: its address, and its data in octal or as instructions; the instructions of the previous block show the
--- first `shown` bytes
+-- the text of a data block whose first `shown` bytes are in the lines of the previous block: its address, and its data in octal or as
+-- instructions
 abbrev pub block_text : TapeView → ℕ → ℕ × Bytes → Bytes → Bytes
 block_text InOctal shown block after = ((codes "BLOCK " ++ octal_text block.0) ++ data_cells block.0 block.1) ++ 10 ∷ []
 block_text (AsInstructions symbols) shown block after =
     head_line (codes "BLOCK ") block.0 ++ lines_from symbols block.0 0 shown block.1 after
 
--- how many bytes of the next block this text shows
+-- how many bytes of the next block are shown in the text of a block
 abbrev pub over : TapeView → ℕ → ℕ × Bytes → Bytes → ℕ
 over InOctal shown block after = 0
 over (AsInstructions symbols) shown block after = over_from block.0 0 shown block.1 after
@@ -77,20 +77,21 @@ abbrev pub part_after : (Bytes → Read TapeFault TapePart) → List (ℕ × Byt
 part_after read [] = read
 part_after read (block ∷ blocks) = part_after (next_part (total_of block.0 block.1)) blocks
 
--- bytes that consist of these blocks: for each its header, as the reader reads it, and its data
+-- the bytes consist of these blocks: for each, its header, as the reader reads it, and its data. The header of a block after the first
+-- begins with the sum byte of the block before it; the sum byte of the last block is left out
 abbrev pub Hold : (Bytes → Read TapeFault TapePart) → List (ℕ × Bytes) → Bytes → Type 0
 Hold read [] bytes = bytes ≡ []
 Hold read (block ∷ blocks) bytes = (header : Bytes) × (following : Bytes) × (bytes ≡ header ++ (block.1 ++ following))
     × ((rest : Bytes) → read (header ++ rest) ≡ Ok (Data block.0 (length block.1), rest))
     × Hold (next_part (total_of block.0 block.1)) blocks following
 
--- a feed yielded these blocks
+-- a feed yielded these blocks, all but the sum byte of the last one
 pub record GivesBlocks (old here : Position) (blocks : List (ℕ × Bytes)) : Type 0 where
   pub given : Bytes
   pub took : Took old here given
   pub hold : Hold first_part blocks given
 
--- the header of a block was read, and some of its data, but not all
+-- the header of a block was read, and some or none of its data, but not all
 pub record InsideData (read : Bytes → Read TapeFault TapePart) (here inside : Position) : Type 0 where
   pub address : ℕ
   pub count : ℕ
@@ -132,8 +133,8 @@ pub record LacksText (texts : List Bytes) (output output' : OutputState) (before
   pub gained : Gained (concat put) output output'
   pub number : before ≡ length put
 
--- a dump stopped in the block after `before` blocks, when it had read these blocks, which these bytes hold, and this byte shows why: no
--- further part could be read, or not all data of one; a text couldn't be written; or memory was refused
+-- a dump that had read these blocks from these bytes stopped in the block after `before` blocks, and this byte shows why: no further
+-- part could be read, or not all data of one; a text couldn't be written; or memory was refused
 abbrev pub StopsTape : TapeView → DumpFault → Position → Position → OutputState → OutputState → List (ℕ × Bytes) → Bytes → ℕ → ℕ → Type 0
 StopsTape view (fault.Tape inner) here new output output' blocks given before byte = Gained (tape_text view blocks) output output'
     × (before ≡ length blocks) × (StopsAt (part_after first_part blocks) (why_of inner) here new given byte
@@ -146,7 +147,8 @@ StopsTape view (fault.Block inner) here new output output' blocks given before b
 StopsTape view (fault.Record inner) here new output output' blocks given before byte = ⊥
 StopsTape view (fault.Rule inner) here new output output' blocks given before byte = ⊥
 
--- a whole tape was dumped: its blocks and its transfer block were read, and nothing after it, and the output gained their text
+-- a whole tape was dumped: its blocks and its transfer block were read, but nothing after the transfer block, and the output gained
+-- their text
 pub record DumpsWhole (view : TapeView) (old new : Position) (output output' : OutputState) : Type 0 where
   pub blocks : List (ℕ × Bytes)
   pub start : ℕ
@@ -164,12 +166,12 @@ DumpsTape view old new output output' (Err said) = (blocks : List (ℕ × Bytes)
 
 -- ---- parts of a dump
 
--- all data of a block was read, and the reader's state is that at the end of the data
+-- all data of a block was read, and the reader is in the state after the last byte of data
 abbrev pub ReadsData : Position → Position → TapeStage → ℕ → ℕ → Bytes → Type 0
 ReadsData opened end stage address count bytes =
     (length bytes ≡ count) × Took opened end bytes × (stage ≡ InBlock 0 (total_of address bytes))
 
--- only part of the data could be read, or memory was refused for it
+-- not all of the data could be read, or memory was refused for it
 abbrev pub StopsData : DumpFault → Position → Position → ℕ → Type 0
 StopsData (fault.Tape inner) opened new count = (taken : Bytes) × (inside : Position) × Took opened inside taken
     × (length taken < count) × Stops data_byte inside new (why_of inner)
@@ -179,7 +181,8 @@ StopsData (fault.Block inner) opened new count = ⊥
 StopsData (fault.Record inner) opened new count = ⊥
 StopsData (fault.Rule inner) opened new count = ⊥
 
--- ---- the pending block: the last block that was read, which is shown once the next part is known; none before the first one
+-- ---- the pending block: the last block that was read, which is shown once the next part is known; before the first block none is
+-- pending
 
 abbrev pub held_block : Option Held → List (ℕ × Bytes)
 held_block None = []
@@ -189,8 +192,8 @@ abbrev pub held_shown : Option Held → ℕ
 held_shown None = 0
 held_shown (Some held) = held.shown
 
--- the pending block, if there is one, is no longer than a block of a tape, and fewer than 2 to the power of 32 blocks come before
--- it
+-- the pending block, if there is one, has no more data than a block of a tape may have, and fewer than 2 to the power of 32 blocks come
+-- before it
 abbrev pub HeldFits : Option Held → Type 0
 HeldFits None = ⊤
 HeldFits (Some held) = (length held.bytes.items ≤ data_limit) × (held.before < 2 ^ 32)
@@ -220,8 +223,8 @@ abbrev pub said_after : Result ℕ LocatedFault → LocatedFault → LocatedFaul
 said_after (Ok shown) said = said
 said_after (Err inner) said = inner
 
--- the pending block, if there is one, was shown with nothing after it, and this fault is reported; or showing it failed, and the fault of
--- that is reported
+-- the pending block, if there is one, was shown with nothing after it, and this fault is reported; or showing it failed, and the
+-- fault of showing it is reported
 abbrev pub StopsHeld : TapeView → Option Held → DumpFault → ℕ → ℕ → OutputState → OutputState → LocatedFault → Type 0
 StopsHeld view held inner passed count output output' said = (result : Result ℕ LocatedFault)
     × ShowsHeld view held [] count output output' result × (said ≡ said_after result (placed_at inner passed (fault_byte inner count)))

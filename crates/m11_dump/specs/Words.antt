@@ -20,7 +20,7 @@ word_cell address index word = words_start address index ++ 32 ∷ octal_text wo
 abbrev pub byte_cell : ℕ → ℕ → ℕ → Bytes
 byte_cell address index byte = words_start address index ++ 32 ∷ octal3 byte
 
--- the text of bytes as words, a single last one as a byte; the first one has this index
+-- the text of bytes as words, and of a single last byte as a byte; the first byte has this index
 abbrev pub words_from : ℕ → ℕ → Bytes → Bytes
 words_from address index [] = []
 words_from address index (byte ∷ []) = byte_cell address index byte

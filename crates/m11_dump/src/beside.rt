@@ -26,7 +26,7 @@ pub(crate) fn put_places(
     Ok(())
 }
 
-// Whether the value that a relocation stores begins at the byte with this index in its text.
+// Whether a relocation stores a value that begins at the byte with this index in its text.
 fn names_byte(index: usize, place: &Relocation) -> bool
     requires { index < 65536 }
     ensures { result ≡ spec.names_byte index place.now }
@@ -34,7 +34,7 @@ fn names_byte(index: usize, place: &Relocation) -> bool
     stores(&place.target) && usize::from(place.displacement) == index + 4
 }
 
-// Whether the value that a relocation stores begins at one of the first `count` bytes of its text.
+// Whether a relocation stores a value that begins at one of the first `count` bytes of its text.
 fn names_any(count: usize, place: &Relocation) -> bool
     requires { count ≤ 65536 }
     ensures { result ≡ spec.names_any count place.now }
@@ -43,7 +43,7 @@ fn names_any(count: usize, place: &Relocation) -> bool
     stores(&place.target) && 4 <= displacement && displacement < count + 4
 }
 
-// Adds the line of a relocation if the value that it stores begins at the byte with this index.
+// Adds the line of a relocation if it stores a value that begins at the byte with this index.
 fn put_place_at(
     text: &mut Vec<u8>,
     address: u16,
@@ -76,7 +76,7 @@ fn put_places_at(
     Ok(())
 }
 
-// Adds the line of a relocation unless the value that it stores begins at one of the first `count` bytes.
+// Adds the line of a relocation unless it stores a value that begins at one of the first `count` bytes.
 fn put_other_place(
     text: &mut Vec<u8>,
     address: u16,
@@ -93,8 +93,8 @@ fn put_other_place(
     }
 }
 
-/// Adds the lines of the relocations of the text at this address whose values begin at none of its `count` bytes. Fails if memory
-/// is refused.
+/// Adds the lines of those relocations of the text at this address that store no value, or a value that begins at none of the text's
+/// `count` bytes. Fails if memory is refused.
 pub(crate) fn put_other_places(
     text: &mut Vec<u8>,
     address: u16,
@@ -110,8 +110,8 @@ pub(crate) fn put_other_places(
     Ok(())
 }
 
-// Adds the line that begins with the first of `bytes` at this location, unless the previous line shows that byte. `shown` is how many
-// of `bytes` the previous line shows. Returns how many of the bytes after the first one are now shown.
+// Adds the line that begins with the first of `bytes`, which lies at this location, unless the previous line shows that byte. `shown`
+// is how many of `bytes` the previous line shows. Returns how many of the bytes after the first one are now shown.
 fn put_line_at(
     text: &mut Vec<u8>,
     location: u16,

@@ -83,7 +83,8 @@ fn add_definition(line: &mut Line, flags: SymbolFlags, value: u16)
     add_bytes(line, relocation_word(flags));
 }
 
-// Adds what follows the name of a global symbol: its value if it is defined here, and the keyword of a weak one.
+// Adds what follows the name of a global symbol: its value and whether that is relocatable or absolute, if it is defined here; and
+// a keyword if it is weak.
 fn add_symbol(line: &mut Line, flags: SymbolFlags, value: u16)
     requires { array_vec_len line.old ≤ 100 }
     ensures text { line.new.items ≡ line.old.items ++ spec.symbol_text flags.0 value }
@@ -108,7 +109,8 @@ fn add_section(line: &mut Line, flags: SectionFlags, value: u16)
     add_attributes(line, flags);
 }
 
-// Adds what follows the name of an entry: a value and keywords by its flags, if its kind has them.
+// Adds what follows the name of an entry: its value and the keywords of its flags, if its kind has them; a reference to a global symbol
+// has no value.
 fn add_rest(line: &mut Line, entry: &GsdEntry)
     requires { array_vec_len line.old ≤ 100 }
     ensures text { line.new.items ≡ line.old.items
@@ -137,8 +139,8 @@ fn add_rest(line: &mut Line, entry: &GsdEntry)
     }
 }
 
-/// The line of an entry: its keyword and its name, then its value and its flags in words if its kind has them. Blanks at its end are
-/// left out.
+/// The line of an entry: its keyword and its name, then its value and the keywords of its flags, if its kind has them; a reference to a
+/// global symbol has no value. Blanks at the end of the line are left out.
 #[tactic(auto, using(m11_obj_print::proofs::Trimming::line_at))]
 pub(crate) fn entry_line(entry: &GsdEntry) -> Line
     ensures { result.items ≡ spec.entry_line entry.now }

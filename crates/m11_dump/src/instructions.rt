@@ -18,7 +18,7 @@ use std::alloc::AllocError;
 pub(crate) struct Lines {
     /// The bytes of the lines, with their line feeds.
     pub(crate) text: Vec<u8>,
-    /// How many bytes of the next text or block they show.
+    /// How many bytes of the next text or block the lines show.
     pub(crate) over: usize,
 }
 
@@ -78,7 +78,7 @@ fn front_of(location: u16, bytes: &[u8]) -> Front
     }
 }
 
-// Adds bytes as words, and a last single byte as a byte, each in octal after a blank.
+// Adds bytes as words, and a single last byte as a byte, each in octal after a blank.
 fn add_cells(line: &mut Line, bytes: &[u8])
     requires { array_vec_len line.old + 7 * length bytes.now ≤ 100 }
     ensures text { line.new.items ≡ line.old.items ++ spec.cells bytes.now }
@@ -129,8 +129,8 @@ fn line_by(location: u16, shown: &[u8], source: &[u8], comment: &[u8]) -> Line
     line
 }
 
-/// Adds the line of the statement at this location, where `bytes` begin, with a comment that names the location if one of `symbols`
-/// does. Returns how many bytes the line shows. Fails if memory is refused.
+/// Adds the line of the statement at this location, where `bytes` begin, with a comment that names the location by the nearest of
+/// `symbols` at or below it, if there is one. Returns how many bytes the line shows. Fails if memory is refused.
 pub(crate) fn put_line(
     text: &mut Vec<u8>,
     symbols: &[Symbol],
@@ -160,9 +160,10 @@ pub(crate) fn put_head(text: &mut Vec<u8>, word: &[u8], address: u16) -> Result<
     Ok(())
 }
 
-/// Adds the lines of a text or block at this address, with the names of locations among `symbols`. Its own bytes are the
-/// first `own` of `bytes`, at most 65,536, of which the first `shown` were shown before; the others belong to the next text or block.
-/// Returns how many of the others the last line shows. Fails if memory is refused.
+/// Adds the lines of a text or block at this address. Each line ends with a comment that names its location by the nearest of
+/// `symbols` at or below it, if there is one. The first `own` of `bytes`, at most 65,536, are those of the text or block, and the
+/// first `shown` of them were shown before; the others belong to the next text or block. Returns how many of the others the last
+/// line shows. Fails if memory is refused.
 pub(crate) fn put_lines(
     text: &mut Vec<u8>,
     symbols: &[Symbol],

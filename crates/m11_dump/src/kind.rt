@@ -73,7 +73,7 @@ fn kind_by_next(next: Result<TapePart, TapeFault>) -> Kind
     }
 }
 
-// Reads a block as one of a tape: up to its data, or up to its sum byte if it has no data.
+// Reads a block as one of a tape: up to its data, or up to its end if it has no data.
 fn read_block<F: Feed>(feed: &mut F) -> Result<TapePart, TapeFault>
     ensures { (room : ℕ) × ReadsPart (λ part. part) first_part (position (F.text feed.old) (F.faults feed.old) most_bytes)
         (position (F.text feed.new) (F.faults feed.new) room) result }
@@ -84,9 +84,10 @@ fn read_block<F: Feed>(feed: &mut F) -> Result<TapePart, TapeFault>
 
 /// The kind of a file, from the first word of its first block, which is a record type in an object and a load address in a tape. The
 /// file is an object if this word is 1 (a directory) or 5 (internal symbols), or if it is 2 (the end of a directory) and nothing
-/// follows it in the block; a library if it is 7; otherwise a tape. But if the word is 1 and nothing follows it in the block, the
-/// file is a tape if it ends without a further block. If the first block can't be read, the file is an object. The feed is read up
-/// to this word, and up to the sum byte if nothing follows the word; a further block is read in the same way.
+/// follows it in the block; a library if it is 7; otherwise a tape. But if the word is 1 and nothing follows it in the block, the file
+/// is a tape if it ends without a further block. If the first block can't be read, the file is an object. The feed is read up to the
+/// end of this word, or up to the end of the block if nothing follows the word. A further block is read only if the word is 1 and
+/// nothing follows it, and then in the same way.
 pub fn kind_of<F: Feed>(feed: &mut F) -> Kind
     ensures { (room : ℕ) × IsKind (position (F.text feed.old) (F.faults feed.old) most_bytes)
         (position (F.text feed.new) (F.faults feed.new) room) result }

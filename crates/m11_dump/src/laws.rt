@@ -23,9 +23,9 @@ pub fn contents_stand_where_they_are_told()
 {}
 
 /// A dump of an object's text in octal shows each byte exactly once, in order, at its location, and the three digits of a byte spell
-/// its value. A dump of a text or block as instructions shows the bytes in lines, each of which shows the next bytes at their
-/// location. In a sequence of blocks the lines of a block show those of its bytes that the lines of the previous block don't show, and
-/// the bytes of the next block that its last line needs, but never more than there are.
+/// its value. A dump of a text or block as instructions shows the bytes in lines, each of which shows the next bytes at their location.
+/// In a sequence of blocks the lines of a block show those of its bytes that the lines of the previous block don't show, and as many
+/// bytes of the next block as the last line needs, but never more than there are.
 #[tactic(auto, using(crate::proofs::EachLine::each_line, crate::proofs::EachLine::each_joined_line, crate::proofs::EachLine::joined_within, crate::proofs::EachOctet::octet_between, crate::proofs::EachOctet::octet_spelled))]
 pub fn each_byte_is_shown_once_in_order()
     ensures order { (address byte : ℕ) (before following : Bytes)

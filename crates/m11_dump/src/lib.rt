@@ -30,7 +30,7 @@ mod taking;
 
 pub use objects::dump_object;
 
-// A library of objects, a block at a time, from the first block of its modules on.
+// A library of objects, a block at a time, beginning with the first block of its modules.
 mod libraries;
 mod library_parts;
 mod library_start;

@@ -41,8 +41,8 @@ fn out_of_order(block: &Block, blocks: u64, read: u32) -> LocatedFault
     placed(DumpFault::Rule(ModuleFault::BadOrder), blocks, byte)
 }
 
-// Accepts a directory, shows its entries and returns the stage after it. It is refused if it isn't a valid record, may not come here,
-// or couldn't be shown.
+// Accepts a directory, shows its entries and returns the stage after it. It is refused if it isn't a valid record, may not come
+// here, or couldn't be shown.
 fn accept_directory<S: Sink>(
     alloc: Global,
     block: &Block,
@@ -90,8 +90,8 @@ fn accept_unread(
     }
 }
 
-// The fault of a block whose type is neither one of a module nor the library's end: the fault of reading it as a record, or else that
-// it is out of order.
+// The fault of a block whose type is neither that of a module's record nor that of the library's end: the fault of reading the block as
+// a record, or else that the block is out of order.
 fn refuse_other(block: &Block, blocks: u64, read: u32) -> LocatedFault
     requires part { parts.part_of block.now.items ≡ Part.Other }
     requires few { blocks < 2 ^ 32 }
@@ -175,7 +175,7 @@ fn list_blocks<F: Feed, S: Sink>(
 
 /// Writes the lines of the directories of a library's modules, block by block. The modules begin with the first block whose length
 /// and sum byte are right and whose type is that of a module's record or of the library's end; all bytes before it are skipped.
-/// Nothing is shown of other blocks, and only their type is read. The rules of modules aren't applied.
+/// Other blocks have no lines, and only their type is read. The rules of modules aren't applied.
 ///
 /// Errors, each with the number of its block, where that first block is 1, and the byte that shows it: `Block`, if the bytes aren't
 /// a block, the feed failed, or there are more than 4,194,304 bytes up to the end of the first block, or after it; `Record`, if a

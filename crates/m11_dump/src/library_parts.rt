@@ -46,7 +46,7 @@ fn part_by(code: u16) -> Part
     }
 }
 
-/// The part that a block with this content is, according to its first word; `Other` without a whole word.
+/// The part that a block with this content is, according to the content's first word; `Other` if the content has fewer than two bytes.
 pub(crate) fn part_of(content: &[u8]) -> Part
     ensures { result ≡ spec.part_of content.now }
 {
@@ -56,14 +56,14 @@ pub(crate) fn part_of(content: &[u8]) -> Part
     }
 }
 
-/// Whether a directory begins a module: its first entry is the module's name. A directory without entries begins none.
+/// Whether a directory begins a module: whether its first entry is the module's name. A directory without entries begins none.
 pub(crate) fn begins(record: &Record<'_>) -> bool
     ensures { result ≡ spec.begins (record_entries «record».now) }
 {
     record.entry_count() > 0 && matches!(record.entry(0).kind, GsdKind::ModuleName)
 }
 
-// The stage after a directory; None where it may not come: between modules if it begins none, and after the library's end.
+// The stage after a directory; None where it may not come: between modules if it begins no module, and after the library's end.
 fn after_directory(stage: Stage, begins: bool) -> Option<Stage>
     ensures { result ≡ spec.after_directory stage begins }
 {
@@ -74,7 +74,7 @@ fn after_directory(stage: Stage, begins: bool) -> Option<Stage>
     }
 }
 
-// The stage after another record of a module: `after`, if the record is inside a module; otherwise None.
+// The stage after another record of a module: `after` if the record is inside a module, otherwise None.
 fn after_inner(stage: Stage, after: Stage) -> Option<Stage>
     ensures { result ≡ spec.after_inner stage after }
 {

@@ -26,7 +26,7 @@ fn ends_module(record: &Record<'_>) -> bool
     matches!(record.kind(), RecordKind::EndOfModule)
 }
 
-// Forgets the open module if an accepted record ends it, so that the next module is judged as if it were alone.
+// Forgets the open module if an accepted record ends it, so that the next module is checked as if it were alone.
 fn leave_module(rules: &mut Rules, record: &Record<'_>)
     ensures { (parts : List Part) → IsRecord «record».now → rules.old ≡ known_of (parts ++ record_parts «record».now)
         → rules.new ≡ known_of (spec.open_after parts «record».now) }
@@ -36,8 +36,8 @@ fn leave_module(rules: &mut Rules, record: &Record<'_>)
     }
 }
 
-// Checks a record after `blocks` blocks against the rules, which forget the open module if the record ends it. Its block ends after
-// `read` bytes of the file.
+// Checks a record against the rules, which then forget the open module if the record ends it. `blocks` blocks come before the
+// record's block, which ends after `read` bytes of the file.
 fn judge_record(
     rules: &mut Rules,
     record: &Record<'_>,

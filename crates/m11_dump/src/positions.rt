@@ -26,7 +26,7 @@ pub(crate) fn fault_byte(fault: DumpFault, read: u32) -> u64
     }
 }
 
-/// This fault in the block after `blocks` blocks, at this byte of the file.
+/// This fault in the block after `blocks` blocks, at this offset in the file.
 pub(crate) fn placed(fault: DumpFault, blocks: u64, byte: u64) -> LocatedFault
     requires { blocks < 2 ^ 32 }
     ensures { result ≡ spec.placed_at fault blocks byte }
@@ -94,8 +94,8 @@ pub(crate) fn record_byte(content: &Block, fault: RecordFault, read: u32) -> u64
     content_start(content, read) + index_of(content, fault) as u64
 }
 
-/// The offset of the byte that shows that a record breaks a rule of modules, if its block ends after `read` bytes of the file: the
-/// first of its content. For `NoMemory` it is `read`.
+/// The offset of the byte that shows that a record breaks a rule of modules, if its block ends after `read` bytes of the file: that of
+/// the first byte of its content. For `NoMemory` it is `read`.
 pub(crate) fn rule_byte(content: &[u8], fault: ModuleFault, read: u32) -> u64
     requires { length content.now ≤ content_limit }
     ensures { result ≡ spec.rule_byte fault content.now read }

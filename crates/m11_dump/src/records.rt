@@ -13,7 +13,7 @@ use crate::relocations::relocations_of;
 use m11_obj::{Record, RecordKind};
 use std::alloc::{AllocError, Global};
 
-/// Adds the lines of a directory's entries. Error: memory was refused.
+/// Adds the lines of a directory's entries. Fails if memory is refused.
 pub(crate) fn put_entries(text: &mut Vec<u8>, record: &Record<'_>) -> Result<(), AllocError>
     ensures { OnOk result (text.new.items
         ≡ text.old.items ++ flat_map entries.entry_line (record_entries «record».now)) }
@@ -57,7 +57,7 @@ fn put_record(
     }
 }
 
-/// The lines of a record; none for a text. Relocations apply to the text before them, which lies at this address. Error: memory was
+/// The lines of a record; none for a text. Relocations apply to the text before them, which lies at this address. Fails if memory is
 /// refused.
 pub(crate) fn record_text(
     alloc: Global,

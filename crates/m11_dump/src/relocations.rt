@@ -162,7 +162,7 @@ pub(crate) fn relocation_line(address: u16, relocation: &Relocation) -> Line
     ended(line)
 }
 
-/// The relocations of a record. Error: memory was refused.
+/// The relocations of a record. Fails if memory is refused.
 pub(crate) fn relocations_of(
     alloc: Global,
     record: &Record<'_>,

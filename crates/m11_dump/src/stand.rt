@@ -10,7 +10,7 @@ use m11_obj::{Record, RecordKind};
 /// The state of an object's dump between two blocks.
 #[derive(Drop)]
 pub(crate) struct Stand {
-    /// The address of the last text within its section, 0 before the first.
+    /// The address, within its section, of the last text; 0 before the first text.
     pub(crate) address: u16,
     /// The number of blocks read so far.
     pub(crate) blocks: u64,
@@ -18,7 +18,7 @@ pub(crate) struct Stand {
     pub(crate) held: Option<HeldText>,
 }
 
-/// The address of the last text after this record, which may be a text itself.
+/// The address of the last text up to and including this record. `address` is that of the last text before it.
 pub(crate) fn address_after(address: u16, record: &Record<'_>) -> u16
     ensures { result ≡ address_then address (content_of «record».now) }
 {

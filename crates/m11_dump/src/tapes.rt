@@ -178,7 +178,8 @@ fn beyond_of<'a>(held: &Option<Held>, address: u16, bytes: &'a [u8]) -> &'a [u8]
     if follows { first_five(bytes) } else { &[] }
 }
 
-// Shows the pending block, if there is one, which `beyond` continues. Returns how many bytes of `beyond` its lines show.
+// Shows the pending block, if there is one, which `beyond` continues. Returns how many bytes of `beyond` its lines show; 0 if no block
+// is pending.
 fn show_held<S: Sink>(
     alloc: Global,
     view: View,
@@ -247,14 +248,16 @@ fn show_end<S: Sink>(
     }
 }
 
-/// Writes the lines of a tape's blocks, each when the next block is read, and finally its start address. In a dump as instructions
-/// the last line of a block includes the first words of the next block if the instruction continues there, and each line ends with
-/// a comment that names its address, if one of the globals `symbols` does. Nothing is read after the transfer block.
+/// Writes the lines of a tape's blocks, those of each block when the next one is read, and finally its start address. In a dump as
+/// instructions the last line of a block includes the first words of the next block if the instruction continues there, and each
+/// line ends with a comment that names its address by the nearest of the globals `symbols` at or below it, if there is one. Nothing
+/// is read after the transfer block.
 ///
-/// Errors, each with the number of its block and the byte that shows it: `Tape`, if the bytes aren't a block, or the feed failed,
-/// ended without a transfer block or has more bytes than a tape may have; `Write`, if the sink failed, after part of a block's lines
-/// was written; `NoMemory`, if memory was refused for a block's data or lines. A wrong sum is found when the next block is read; its
-/// error names that next block and the sum byte. The lines of all earlier blocks are written first.
+/// Errors, each with the number of its block and the byte that shows it: `Tape`, if the bytes aren't a block, or the feed failed, ended
+/// without a transfer block or has more bytes than a tape may have; `Write`, if the sink failed, after part of a block's lines was
+/// written; `NoMemory`, if memory was refused for a block's data or lines. A wrong sum byte of a data block is found when the next
+/// block is read: the error gives the number of that next block, and the offset of the sum byte. The lines of all earlier blocks are
+/// written first.
 pub fn dump_tape<F: Feed, S: Sink>(
     alloc: Global,
     view: View,

@@ -58,7 +58,7 @@ pub(crate) fn word_of(low: u8, high: u8) -> u16
     LittleEndian::read_u16(&[low, high])
 }
 
-// Adds bytes as words, and a last single byte as a byte.
+// Adds bytes as words, and a single last byte as a byte.
 fn put_words(text: &mut Vec<u8>, address: u16, bytes: &[u8]) -> Result<(), AllocError>
     requires { length bytes.now < 65536 }
     ensures { OnOk result (text.new.items ≡ text.old.items ++ spec.words_from address 0 bytes.now) }

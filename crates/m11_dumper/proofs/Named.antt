@@ -10,7 +10,7 @@ use Rattle.m11_dumper.specs.Showing.{ShowsAll}
 use Rattle.m11_dumper.specs.declared.paths.Look.{Look}
 use Rattle.m11_dumper.specs.declared.stop.Stop.{Stop}
 
--- names were found, which changed no file
+-- if names were found, and finding them changed no file, the files are shown with these names
 pub shown_with : {I : Type 0} (text : I → Option Text) (faults : I → ℕ) (look : Look) (bottom : ℕ) (names : List (List ℕ)) (files middle : Option Files) (paths : List (List ℕ))
     (symbols : List Symbol) (out out' : OutputState) (result : Result (Unit {0}) Stop) → Names text faults bottom files names symbols
     → middle ≡ files → ShowsAll look symbols middle paths out out' result

@@ -13,7 +13,7 @@ use Rattle.m11_dumper.specs.declared.stop.Stop.{Stop}
 use Rattle.m11_dumper.specs.declared.stop.Stop.TheVariants.{NotOpened, InFile, InObject, InMap, NoSymbols, Write, NoMemory}
 use Rattle.m11_dump.specs.declared.view.View.{View}
 
--- a file that was opened, by its path
+-- if a file is open and was shown, the file at its path was shown
 pub file_shown : (look : Look) (symbols : List Symbol) (files : Option Files) (path : List ℕ) (kind : Kind) (text : Option Text) (faults : ℕ) (out out' : OutputState)
     (result : Result (Unit {0}) Stop) → IsOfKind look.kind files path kind → Holds files path text
     → ShowsInput look.view symbols kind text faults path out out' result → ShowsFile look symbols files path out out' result
@@ -26,21 +26,21 @@ file_shown look symbols files path kind text faults out out' (Err (InObject name
 file_shown look symbols files path kind text faults out out' (Err (InMap fault)) k h s = absurd s
 file_shown look symbols files path kind text faults out out' (Err (NoSymbols named fault)) k h s = absurd s
 
--- a file was shown, and then others, or some of them
+-- if a file was shown, and then others after it, as many as could be shown, all of them together were
 pub more_shown : (look : Look) (symbols : List Symbol) (files : Option Files) (path : List ℕ) (paths : List (List ℕ)) (out middle out' : OutputState) (done : Unit {0})
     (result : Result (Unit {0}) Stop) → ShowsFile look symbols files path out middle (Ok done) → ShowsAll look symbols files paths middle out' result
     → ShowsAll look symbols files (path ∷ paths) out out' result
 more_shown look symbols files path paths out middle out' done (Ok all) h s = (middle, h, s)
 more_shown look symbols files path paths out middle out' done (Err stop) h s = inr (middle, h, s)
 
--- a file at which showing stopped
+-- if showing the first file stopped, showing all files stopped there
 pub not_shown : (look : Look) (symbols : List Symbol) (files : Option Files) (path : List ℕ) (paths : List (List ℕ)) (out out' : OutputState) (stop : Stop)
     → ShowsFile look symbols files path out out' (Err stop) → ShowsAll look symbols files (path ∷ paths) out out' (Err stop)
 not_shown look symbols files path paths out out' stop h = inl h
 
 -- ---- the head of a file
 
--- the head of a file couldn't be written
+-- if the head of a file can't be written, showing the file stops with `Write`
 pub head_fails : (view : View) (symbols : List Symbol) (kind : Kind) (text : Option Text) (faults : ℕ) (path bytes : List ℕ) (out out' : OutputState)
     (result : Result (Unit {0}) Stop) (stopped : Stop) → IsErrAnd result (λ stop. stop ≡ stopped) → stopped ≡ Write
     → bytes ≡ head_line kind path → Fails bytes out out' → ShowsInput view symbols kind text faults path out out' result

@@ -18,14 +18,14 @@ use Rattle.m11_dumper.specs.Mapping.{IsBelow, Runs, ShowsMap, Tells, of_all, of_
 use Rattle.m11_dumper.specs.declared.stop.Stop.{Stop}
 use Rattle.m11_dumper.specs.declared.stop.Stop.TheVariants.{InObject, InMap}
 
--- the path of an index
+-- the path at an index of the borrowed paths is the path at that index of their texts
 pub path_at : (paths : List (Bor (List ℕ))) (index : ℕ) (path : Bor (List ℕ)) → index < length paths → path ≡ get_or paths index path
     → slice_get (texts paths) index ≡ Some path.now
 path_at paths index path inside is =
     slice_get-map (λ (p : Bor (List ℕ)). p.now) paths index
     ∙ ap (option_map (λ (p : Bor (List ℕ)). p.now)) (slice_get-get_or paths index path inside ∙ ap Some (sym is))
 
--- a fault of one object, and one of all
+-- a fault with an index is the fault of that object, and a fault without one is that of all objects together
 pub one_told : (stopped : ObjectsFault) (index : ℕ) → stopped.object_index ≡ Some index → stopped ≡ of_one index stopped.fault
 one_told stopped index is = ap (λ (object : Option ℕ). record stopped { object_index = object }) is
 
@@ -33,14 +33,14 @@ pub all_told : (stopped : ObjectsFault) → stopped.object_index ≡ None → st
 all_told stopped is = ap (λ (object : Option ℕ). record stopped { object_index = object }) is
 
 module _ {I : Type 0} (text : I → Option Text) (faults : I → ℕ) (files : Option Files) where
-  -- there are as many files as paths
+  -- there are as many open objects as paths
   same_length : (paths : List (List ℕ)) (objects : List I) → AreFiles text files paths objects → length objects ≡ length paths
   same_length [] [] h = refl
   same_length [] (object ∷ objects) h = absurd h
   same_length (path ∷ paths) [] h = absurd h
   same_length (path ∷ paths) (object ∷ objects) h = ap suc (same_length paths objects h.1)
 
-  -- the object that has a fault is among those of the paths
+  -- the index of the object at fault is below the number of paths
   pub is_below : (paths : List (Bor (List ℕ))) (objects objects' : List I) (bottom : ℕ) (index : Option ℕ) (stopped : LinkFault)
       → AreFiles text files (texts paths) objects → StopsAt (pass_of text faults objects objects') bottom [] index stopped
       → IsBelow index (length paths)
@@ -51,7 +51,7 @@ module _ {I : Type 0} (text : I → Option Text) (faults : I → ℕ) (files : O
       let all : objects ≡ h.done ++ h.object ∷ h.others = h.old-is in
       omega (arith, many, ap length all, length-append h.done (h.object ∷ h.others), h.index-is)
 
--- a fault of objects is shown as it is told
+-- if a run ends with a fault that becomes this stop, showing the map ends with the stop
 pub told : {I : Type 0} (text : I → Option Text) (faults : I → ℕ) (bottom : ℕ) (files : Option Files) (paths : List (List ℕ))
     (out out' : OutputState) (stopped : ObjectsFault) (stop : Stop) → Tells paths stopped stop
     → Runs text faults bottom files paths out out' (Err (map.Objects stopped))

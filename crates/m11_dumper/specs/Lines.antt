@@ -29,9 +29,9 @@ kind_word Tape = codes "TAPE "
 abbrev pub head_line : Kind → Bytes → Bytes
 head_line kind path = path_end (kind_word kind) path
 
--- the number and the name of a fault, the same as in a link; a fault of a block or a record also has the number and the name of its inner
--- fault; a fault of a tape is 20, with the simulator's number and name; but a device that failed is always 1, and a file that is too long
--- is always 13
+-- the number and the name of a fault, the same as in a link. A fault of a block or a record is followed by the number and the name of
+-- its inner fault. A fault of a tape is 20, followed by the simulator's number and name. But a failed read is always 1, and a file that
+-- is too long is always 13
 abbrev pub fault_text : DumpFault → Bytes
 fault_text (fault.Block block.Device) = codes "1 Read"
 fault_text (fault.Block block.TooMuch) = codes "13 TooMuch"

@@ -1,4 +1,4 @@
--- The program's lines about load maps: why there is none. (This project's own.)
+-- The program's lines that say why there is no load map. (This project's own.)
 use Rattle.std.specs.Prelude.{[], ◌∷◌, ◌++◌, codes}
 use Rattle.m11_base.specs.Devices.{Bytes}
 use Rattle.m11_obj_blocks.specs.Blocks.{block_fault_name, block_fault_number}
@@ -14,10 +14,10 @@ map_fault_text (fault.Block inner) = numbered (codes "3 Block ") (block_fault_nu
 map_fault_text (fault.Record inner) = numbered (codes "4 Record ") (record_fault_number inner) (record_fault_name inner)
 map_fault_text inner = numbered [] (link_fault_number inner) (link_fault_name inner)
 
--- the line that says why there is no load map: the object at this path has a fault
+-- the line that says why there is no load map, if the object at this path has this fault
 abbrev pub object_line : Bytes → LinkFault → Bytes
 object_line path inner = (codes "?M11 DUMP " ++ map_fault_text inner) ++ path_end (codes " OF ") path
 
--- the line that says why there is no load map: the objects together have a fault, or memory was refused
+-- the line that says why there is no load map, if no single object is at fault, or memory was refused for the map
 abbrev pub map_line : LinkFault → Bytes
 map_line inner = (codes "?M11 DUMP " ++ map_fault_text inner) ++ 10 ∷ []

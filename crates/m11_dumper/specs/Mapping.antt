@@ -13,7 +13,7 @@ use Rattle.m11_link_load_map.specs.declared.fault.ObjectsFault.{ObjectsFault}
 use Rattle.m11_link_layout.specs.declared.fault.LinkFault.{LinkFault}
 use Rattle.m11_base_writes.specs.States.{OutputState}
 
--- a run makes the load map of the objects in the files at these paths, with this output before and after the run and this result
+-- a run for the load map of the objects in the files at these paths has this result, and the output has these states before and after it
 abbrev pub Runs : {I : Type 0} → (I → Option Text) → (I → ℕ) → ℕ → Option Files → List Bytes → OutputState → OutputState
     → Result (Unit {0}) LoadMapFault → Type 0
 Runs {I} text faults bottom files paths out out' result = (objects : List I) × (objects' : List I)
@@ -26,8 +26,8 @@ of_one index fault = record { object_index = Some index; fault = fault }
 abbrev pub of_all : LinkFault → ObjectsFault
 of_all fault = record { object_index = None; fault = fault }
 
--- the load map was shown; or there is none, because of the object at the named path or of all objects together; or it couldn't be written;
--- or the named file is the first that can't be opened; or memory was refused before an object was read
+-- the load map was shown; or there is none, because of the object at the named path or of all objects together; or it couldn't be
+-- written; or the named file is the first that can't be opened; or memory was refused, and nothing was written
 abbrev pub ShowsMap : {I : Type 0} → (I → Option Text) → (I → ℕ) → ℕ → Option Files → List Bytes → OutputState → OutputState
     → Result (Unit {0}) Stop → Type 0
 ShowsMap text faults bottom files paths out out' (Ok done) = Runs text faults bottom files paths out out' (Ok done)

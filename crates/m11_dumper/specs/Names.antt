@@ -13,12 +13,12 @@ use Rattle.m11_dumper.specs.declared.paths.Look.{Look}
 use Rattle.m11_dumper.specs.declared.stop.Stop.{Stop}
 use Rattle.m11_dumper.specs.declared.stop.Stop.TheVariants.{NotOpened, NoSymbols}
 
--- why nothing is shown: there are no names
+-- why nothing is shown, given the reason why there are no names
 abbrev pub stop_of : NoNames → Stop
 stop_of (none.NotOpened path) = NotOpened path
 stop_of (none.InFile path fault) = NoSymbols path fault
 
--- the files are shown with the names in the files at other paths; or those give no names, and nothing is shown
+-- the files at `paths` are shown, with the names in the files at `names`; or the files at `names` give no names, and nothing is shown
 abbrev pub ShowsNamed : {I : Type 0} → (I → Option Text) → (I → ℕ) → Look → ℕ → List Bytes → Option Files → List Bytes → OutputState
     → OutputState → Result (Unit {0}) Stop → Type 0
 ShowsNamed text faults look bottom names files paths out out' result =

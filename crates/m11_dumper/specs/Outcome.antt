@@ -1,6 +1,6 @@
 -- The outcome of a command line, what is written for it, and its exit status: 0 if all files were shown or help was asked for, 2 if the
--- command line is refused, 3 for a device or a file that can't be opened, 4 for a malformed file, 5 for lack of memory, 6 for an exceeded
--- limit. (This project's own; a fault has the same status as in a link or a run.)
+-- command line is refused, 3 if a device failed or a file couldn't be opened, 4 for a malformed file, 5 for lack of memory, 6 for an
+-- exceeded limit. (This project's own; a fault has the same status as in a link or a run.)
 use Rattle.std.specs.Prelude.{◌≡◌, ℕ, List, Option, Result, Ok, Err}
 use Rattle.clap.specs.Words.{Text}
 use Rattle.m11_base.specs.Devices.{Bytes}

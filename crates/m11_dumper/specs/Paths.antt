@@ -17,7 +17,7 @@ use Rattle.m11_cli_tasks.specs.Tasks.{bottom_of}
 use Rattle.m11_cli_tasks.specs.declared.usage.UsageFault.{UsageFault}
 use Rattle.m11_cli_tasks.specs.declared.usage.UsageFault.TheVariants.{NoMemory}
 
--- whether an option without a value is given: its value is then `true`
+-- whether an option that takes no value is given: the parser then stores `true` for it
 abbrev pub is_set : Option Text → Bool
 is_set None = false
 is_set (Some text) = bytes_eq text (codes "true")
@@ -26,7 +26,7 @@ is_set (Some text) = bytes_eq text (codes "true")
 abbrev pub view_by : Option Text → View
 view_by value = if is_set value then Instructions else Octal
 
--- the kind that all files are read as, if there is one; objects if both options are given
+-- the kind that all files are read as, if an option states one; objects if both options are given
 abbrev pub kind_by : Option Text → Option Text → Option Kind
 kind_by object tape = if is_set object then Some Object else if is_set tape then Some Tape else None
 
@@ -37,7 +37,7 @@ look_of rows = record {
   kind = kind_by (first_of (codes "object") rows) (first_of (codes "tape") rows);
 }
 
--- what to show: the load map if it is asked for, whatever other options say
+-- what to show: the load map if it is asked for, whatever other options say; otherwise the contents of each file
 abbrev pub show_of : List Row → Show
 show_of rows = if is_set (first_of (codes "map") rows) then Map else Contents (look_of rows)
 

@@ -21,25 +21,25 @@ use Rattle.m11_base_files.specs.Opens.{Files, Holds, Lacks}
 use Rattle.m11_base_writes.specs.States.{OutputState}
 use Rattle.m11_dump.specs.declared.view.View.{View}
 
--- a text was written completely; or the output failed after part of it
+-- `Gains`: a text was written completely, and the output didn't fail. `Fails`: the output failed after a prefix of the text was written
 abbrev pub Gains : Bytes → OutputState → OutputState → Type 0
 Gains text out out' = Appends out.text out'.text text × (out'.faults ≡ out.faults)
 
 abbrev pub Fails : Bytes → OutputState → OutputState → Type 0
 Fails text out out' = AppendsBeginning out.text out'.text text × Rises out.faults out'.faults
 
--- the dump of a file as one of this kind, with these globals as names of a tape's addresses
+-- a dump of a file as one of this kind, with these globals as names of a tape's addresses, has this result
 abbrev pub DumpsKind : View → List Symbol → Kind → Position → Position → OutputState → OutputState → Result (Unit {0}) LocatedFault → Type 0
 DumpsKind view symbols Object old new out out' result = DumpsObject view old new out out' result
 DumpsKind view symbols Library old new out out' result = DumpsLibrary old new out out' result
 DumpsKind view symbols Tape old new out out' result = DumpsTape (tape_view view symbols) old new out out' result
 
--- the head of a file was written, and then the dump of its bytes, which are read from their beginning
+-- the head of a file was written, and then its bytes were dumped from their beginning, with this result
 abbrev pub DumpsInput : View → List Symbol → Kind → Option Text → ℕ → Bytes → OutputState → OutputState → Result (Unit {0}) LocatedFault → Type 0
 DumpsInput view symbols kind text faults path out out' result = (middle : OutputState) × (new : Position) × Gains (head_line kind path) out middle
     × DumpsKind view symbols kind (position text faults most_bytes) new middle out' result
 
--- the kind of a file: the one that an option states for all files, or the one that its first block indicates
+-- the kind of a file: as an option states for all files, otherwise as the beginning of the file indicates
 abbrev pub IsGiven : Option Kind → Position → Position → Kind → Type 0
 IsGiven (Some said) old new kind = kind ≡ said
 IsGiven None old new kind = IsKind old new kind

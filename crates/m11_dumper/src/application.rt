@@ -8,8 +8,7 @@ use clap::{Arg, ArgAction, Command};
 use m11_cli_tasks::{leaf_command, option_argument, with_argument};
 use std::alloc::{AllocError, Global};
 
-/// The command line `m11-dump [-d] [-o] [-t] [-m] [-b OCTAL] [-y NAMES]... FILE...`. `AllocError` if memory is
-/// refused.
+/// The command line `m11-dump [-d] [-o] [-t] [-m] [-b OCTAL] [-y NAMES]... FILE...`. Error: memory was refused.
 pub(crate) fn application_command<'a>(alloc: Global) -> Result<Command<'a>, AllocError>
     ensures { IfOk result (IsCommand application) }
 {

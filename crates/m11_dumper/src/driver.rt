@@ -21,9 +21,10 @@ use std::convert::AsStr;
 
 /// Carries out the command line `words`, whose first word is the program's name, and returns the exit status.
 ///
-/// Opens the files and shows them on `out` one after another, up to the first that can't be shown; or shows the load map of all of them.
-/// The file that can't be shown and the reason are reported on `err`. Help goes to `out`, and a refused command line is reported on `err`.
-/// Nothing is reported if memory is refused for the command line or for the report.
+/// Opens the files and shows them on `out` one after another, up to the first that can't be shown; or shows the load map of all of
+/// them. If not everything could be shown, the reason is reported on `err`, with the path of the file at fault if there is one. Help
+/// goes to `out`, and a refused command line is reported on `err`. Nothing is reported if memory is refused for the command line or for
+/// the report.
 pub(crate) fn command<'a, F, O, E, S>(
     alloc: Global,
     files: &mut F,

@@ -26,7 +26,7 @@ use m11_cli_tasks::words;
 use std::process::ExitCode;
 
 fn main(rt: HostRuntime) -> ExitCode {
-    // Created before anything else is opened, so that no file takes the place of a standard stream that the caller closed.
+    // Created before anything else is opened, so that no file takes the place of a standard stream that is already closed.
     let mut files = SystemFiles::new(&rt);
     let mut out = WriterSink::new(rt.stdout());
     let mut err = WriterSink::new(rt.stderr());

@@ -1,4 +1,4 @@
-//! The program's lines about load maps: why there is none.
+//! The program's lines that say why there is no load map.
 
 ghost use Rattle.std.specs.Prelude.{◌≡◌, ◌++◌, IfOk, OnOk};
 ghost use Rattle.m11_dumper.specs.MapLines.{map_fault_text, map_line, object_line};
@@ -23,7 +23,7 @@ fn put_map_fault(line: &mut Vec<u8>, alloc: Global, fault: LinkFault) -> Result<
     }
 }
 
-/// The line that says why there is no load map, if the object at this path has a fault. Error: memory was refused.
+/// The line that says why there is no load map, if the object at this path has this fault. Error: memory was refused.
 pub(crate) fn object_line(
     alloc: Global,
     path: &str,

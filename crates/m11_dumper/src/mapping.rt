@@ -13,9 +13,9 @@ use m11_cli_tasks::OpenFault;
 use m11_link_load_map::{LoadMapFault, ObjectsFault, load_map_run};
 use std::alloc::Global;
 
-/// Shows the load map of the objects at these paths, in this order, with relocatable sections from `bottom` on. All objects are opened
-/// before the first is read, and all are read before anything is written. Errors: the first object that can't be opened; the fault with
-/// which a link of the objects is refused; `Write`; `NoMemory`.
+/// Shows the load map of the objects at these paths, in this order, with relocatable sections beginning at `bottom`. All objects are
+/// opened before the first is read, and all are read before anything is written. Errors: `NotOpened`, with the first path that can't
+/// be opened; `InObject` or `InMap`, with the fault for which a link of the objects is refused; `Write`; `NoMemory`.
 pub(crate) fn show_map<'a, F: Opens, O: Sink>(
     alloc: Global,
     files: &mut F,

@@ -13,8 +13,9 @@ use m11_base_files::Opens;
 use m11_link_load_map::{NoNames, read_names};
 use std::alloc::Global;
 
-/// Shows the files at `paths`, in order, up to the first that can't be shown. The files at `names` name the addresses; they are read before
-/// any other file is opened. Error: why there are no names, or why a file wasn't shown.
+/// Shows the files at `paths`, in order, up to the first that can't be shown. The files at `names` name the addresses, with relocatable
+/// sections beginning at `bottom`; they are read before any other file is opened. Error: why there are no names, or why a file wasn't
+/// shown.
 #[tactic(auto, using(crate::proofs::Named::shown_with))]
 pub(crate) fn show_named<'a, F: Opens, O: Sink>(
     alloc: Global,
@@ -35,7 +36,7 @@ pub(crate) fn show_named<'a, F: Opens, O: Sink>(
     }
 }
 
-// Why nothing is shown: there are no names.
+// Why nothing is shown, given the reason why there are no names.
 fn stop_of(none: NoNames<'_>) -> Stop<'_>
     ensures { result ≡ stop_of none.entry }
 {

@@ -16,7 +16,7 @@ use std::convert::AsStr;
 pub(crate) struct Look {
     /// How to show the bytes of texts and of a tape's blocks.
     pub(crate) view: View,
-    /// The kind of file that each file is read as; if None, its first block decides.
+    /// The kind of file that each file is read as; if None, the beginning of the file decides.
     pub(crate) kind: Option<Kind>,
 }
 
@@ -71,7 +71,7 @@ fn request_given<'a>(alloc: Global, matches: &ArgMatches<'a>) -> Result<Request<
     })
 }
 
-// What to show: the load map if `-m` is given, even with `-d`.
+// What to show: the load map if `-m` is given, even with `-d`, `-o` or `-t`; otherwise the contents of each file.
 fn show_given(matches: &ArgMatches<'_>) -> Show
     ensures { result ≡ show_of (rows_of (found_of matches.now)) }
 {
@@ -92,7 +92,7 @@ fn look_given(matches: &ArgMatches<'_>) -> Look
     }
 }
 
-// The kind that all files are read as, if there is one: objects if `-o` is given, even with `-t`.
+// The kind that all files are read as, if an option states one: objects if `-o` is given, even with `-t`.
 fn kind_given(matches: &ArgMatches<'_>) -> Option<Kind>
     ensures { result ≡ kind_by (first_of (codes "object") (rows_of (found_of matches.now)))
         (first_of (codes "tape") (rows_of (found_of matches.now))) }
@@ -117,7 +117,7 @@ fn view_given(matches: &ArgMatches<'_>) -> View
     }
 }
 
-// Whether an option without a value is given.
+// Whether an option that takes no value is given.
 #[tactic(auto, using(m11_cli_tasks::proofs::Entries::first_given))]
 fn is_given(matches: &ArgMatches<'_>, id: &str) -> bool
     ensures { result ≡ is_set (first_of id.now (rows_of (found_of matches.now))) }

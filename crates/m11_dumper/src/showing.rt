@@ -76,8 +76,7 @@ fn show_file<'a, F: Opens, O: Sink>(
     }
 }
 
-// The kind of a file: `said`, or if that is None, the kind that the file's first block indicates, for which the beginning of the file is
-// read.
+// The kind of a file: `said`; or, if that is None, the kind that the beginning of the file indicates. Only then is the file read.
 fn kind_given<I: Feed>(said: Option<Kind>, input: &mut I) -> Kind
     ensures { (room : ℕ) × IsGiven said (position (I.text input.old) (I.faults input.old) most_bytes)
         (position (I.text input.new) (I.faults input.new) room) result }

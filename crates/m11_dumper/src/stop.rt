@@ -86,8 +86,8 @@ fn stop_status(stop: &Stop<'_>) -> u8
     }
 }
 
-/// The exit status for an outcome: 0 all shown, or help; 2 a refused command line; 3 a device, or a file that can't be opened; 4 a
-/// malformed file; 5 no memory; 6 a limit.
+/// The exit status for an outcome: 0 if all files were shown or help was asked for; 2 for a refused command line; 3 if a device
+/// failed or a file couldn't be opened; 4 for a malformed file; 5 for lack of memory; 6 for an exceeded limit.
 pub(crate) fn status(outcome: &Outcome<'_>) -> u8
     ensures { result ≡ status_of outcome.now }
 {

@@ -17,7 +17,7 @@ use Rattle.m11_link.specs.Front.{front_writes, global_writes, map_writes, name_w
 use Rattle.m11_link_text.specs.Relocation.{modulo, relocated, replaced, stored_bytes, value_bytes, value_of}
 use Rattle.m11_link.specs.Written.{PlacedText, defined_names, different_writes, ended_writes, has_ended, link_writes, parts_writes, placed_text, relocations_after, text_writes, with_relocation, with_relocations, writes_at, writes_after, writes_by}
 
--- a plan of all parts reports what the definitions give
+-- the findings of a plan of some parts agree with those that the definitions yield for these parts
 pub plan_agrees : (bottom : ℕ) (parts : List Part) (plan : PlanTables) → IsPlanOf bottom parts plan
     → Agree (planned plan) (findings_of bottom parts)
 unfolding findings_of
@@ -195,7 +195,7 @@ module _ (f g : Findings) (a : Agree f g) where
   pub link_same : (parts : List Part) → link_writes f parts ≡ link_writes g parts
   link_same parts = rw (front_same, parts_same parts, a.transfer) refl
 
--- what a link writes by a plan of all parts is what it writes by the definitions
+-- a link with a plan of some parts makes the same writes as with the findings that the definitions yield for these parts
 pub written_by_definition : (bottom : ℕ) (parts others : List Part) (plan : PlanTables) → IsPlanOf bottom parts plan
     → link_writes (planned plan) others ≡ link_writes (findings_of bottom parts) others
 written_by_definition bottom parts others plan h =

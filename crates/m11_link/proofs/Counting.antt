@@ -12,7 +12,7 @@ pub counted-append : (count : ℕ) (xs ys : List Write) → counted (counted cou
 counted-append count [] ys = refl
 counted-append count (x ∷ xs) ys = counted-append (one_more count (is_message x)) xs ys
 
--- lines of the map are no messages
+-- lines of the map aren't counted as messages
 pub lines_not_counted : {X : Type 0} (line : X → List ℕ) (count : ℕ) (xs : List X)
     → counted count (map (λ x. to_report (line x)) xs) ≡ count
 lines_not_counted line count [] = refl

@@ -1,4 +1,4 @@
--- A second pass that stands after parts, and after more of them.
+-- The state of a second pass after some parts, and after further ones.
 use Rattle.std.proofs.Common.{◌≡◌, ℕ, Bool, true, false, if◌then◌else◌, List, [], ◌∷◌, ◌++◌, append_assoc, append-nil, Option, Some, None, Result, Ok, Err, IsErrAnd, inl, inr, refl, sym, subst, ap, ap₂, ◌∙◌}
 use Rattle.std.proofs.lemmas.Bool.{true≢false}
 use Rattle.std.specs.Prelude.{is_ok}
@@ -38,14 +38,15 @@ use Rattle.m11_link.proofs.Entering.{goes_stopped_alone}
 use Rattle.m11_base_writes.proofs.Writing.{gains_nothing, gains_then, stops_after, writes_then}
 use Rattle.m11_link.proofs.WritesAfter.{content_defined_is, content_held, content_held_is, content_reported, content_reported_is, file_defined, held_more, parts_more, reported_all}
 
--- ---- what is held
+-- ---- the state of the reporter
 
 pub record Holds (plan : PlanTables) (parts : List Part) (t : ReporterState) : Type 0 where
   pub planned_so : t.plan ≡ plan
   pub defined : t.defined ≡ defined_names parts
   pub held : t.held ≡ held_text (planned plan) parts
 
--- what parts write, given what is held before them, and what is held after them
+-- in any state of the reporter after the earlier parts, `ws` yields the writes of these parts, and `u` the state after them, which
+-- counts the messages among these writes
 pub record Makes (plan : PlanTables) (before parts : List Part) (ws : ReporterState → List Write) (u : ReporterState → ReporterState) : Type 0
   where
     pub reported : (t : ReporterState) → Holds plan before t
@@ -53,7 +54,7 @@ pub record Makes (plan : PlanTables) (before parts : List Part) (ws : ReporterSt
     pub holds : (t : ReporterState) → Holds plan before t → Holds plan (before ++ parts) (u t)
     pub counts : (t : ReporterState) → (u t).messages ≡ counted t.messages (ws t)
 
--- blocks of the tape are no messages
+-- a block of the tape isn't counted as a message
 block_uncounted : (count address : ℕ) (bytes : List ℕ) (ws : List Write)
     → counted count (block_at address bytes ++ ws) ≡ counted count ws
 block_uncounted count address [] ws = refl
@@ -70,7 +71,7 @@ held_alone count held =
 
 -- ---- a record
 
--- what a record of this content writes, given what stands before it
+-- the writes for a record with this content, given the parts before it and the reporter's state
 abbrev pub made_by : List Part → records.Content → ReporterState → List Write
 made_by before (records.Gsd entries) t = directory_writes (modules_in before) entries t
 made_by before records.EndOfGsd t = held_writes t.held
@@ -82,7 +83,7 @@ made_by before records.EndOfModule t = held_writes t.held
 abbrev pub relocating : List Relocation → ReporterState → ReporterState
 relocating relocations t = with_held (held_with_all (planned t.plan) t.held relocations) t
 
--- and what stands after it
+-- the reporter's state after a record with this content, given the parts and the state before it
 abbrev pub following : List Part → records.Content → ReporterState → ReporterState
 following before (records.Gsd entries) t = with_directory (modules_in before) entries t
 following before records.EndOfGsd t = with_held None t
@@ -157,7 +158,7 @@ content_makes plan before c = record {
   counts = λ t. after_counts before c t;
 }
 
--- the end of an object
+-- at the end of an object the pending text, if there is one, is written, and no text is pending afterwards
 pub end_makes : (plan : PlanTables) (before : List Part)
     → Makes plan before (EndOfFile ∷ []) (λ t. held_writes t.held) (with_held None)
 end_makes plan before = record {
@@ -170,7 +171,7 @@ end_makes plan before = record {
   counts = λ t. sym (held_alone t.messages t.held);
 }
 
--- ---- with what is written first
+-- ---- with the front
 
 pub begun_holds : (plan : PlanTables) (parts : List Part) (b : Bool) (t : ReporterState) (ws : List Write) → Holds plan parts t
     → Holds plan parts (if b then t else with_count ws t)
@@ -186,7 +187,7 @@ pub none_written : (plan : PlanTables) (before : List Part) → before ≡ [] �
 unfolding parts_writes
 none_written plan before e = ap (λ parts. parts_writes (planned plan) parts) e
 
--- all that is written after more parts
+-- the writes after further parts are those so far, then the front if it wasn't written yet, and then those of the further parts
 all_split : (plan : PlanTables) (before parts : List Part) (b : Bool) (ws : List Write)
     → ws ≡ reported_all (planned plan) before (held_text (planned plan) before) parts → (b ≡ false → before ≡ [])
     → written plan true (before ++ parts)
@@ -200,7 +201,7 @@ all_split plan before parts false ws e first =
     ∙ ap (λ done. done ++ reported_all (planned plan) before (held_text (planned plan) before) parts)
     (none_written plan before (first refl)) ∙ sym e)
 
--- nothing stands before any part
+-- a second pass that knows no parts, has written nothing and has no fault is in the state after no parts
 pub stands_first : (plan : PlanTables) (s : EmitState) → s.known ≡ known_of []
     → s.reporting ≡ record { plan = plan; defined = []; held = None; messages = 0 } → s.has_begun ≡ false → s.fault ≡ None
     → EmitAfter plan [] s
@@ -262,7 +263,7 @@ module _ (plan : PlanTables) (before parts : List Part) (ws : ReporterState → 
       → GoesOn Went (written plan s.has_begun before) (written plan true (before ++ parts))
   went_on Went w = record { more = made; split = split; went = w }
 
-  -- parts were judged, and written
+  -- if parts have no fault, the result of making their writes is a result of accepting them
   pub parts_taken : (a b : Outputs) (s' : EmitState) (known : RulesState) (result : Result (Unit {0}) LinkFault)
       → first_fault before parts ≡ None → known ≡ known_of (before ++ parts)
       → Goes a b made s' (let now : EmitState = record s { known = known } in with_reporting (u (begun_reporting s)) now) result
@@ -289,7 +290,7 @@ module _ (plan : PlanTables) (before parts : List Part) (ws : ReporterState → 
   parts_taken a b s' known (Err fault.TooMuch) sound k h = absurd h
   parts_taken a b s' known (Err fault.TextOutside) sound k h = absurd h
 
-  -- parts were refused
+  -- if parts are refused and nothing is written, their fault is a result of accepting them
   refused_by : (a : Outputs) (s' : EmitState) (new : RulesState) (broken : ModuleFault)
       → AcceptsAfter before new parts (Err broken) → AcceptsParts plan before (call_of a a s s') parts (Err (of_module broken))
   refused_by a s' new rule.BadOrder h = ((rule.BadOrder, h, refl), refl)
@@ -310,7 +311,7 @@ module _ (plan : PlanTables) (before parts : List Part) (ws : ReporterState → 
       let P : LinkFault → Type 0 = λ x. AcceptsParts plan before (call_of a a s s') parts (Err x) in
       subst P (sym e) (refused_by a s' new broken h)
 
--- ---- what is written first, by calls
+-- ---- the front, call by call
 
 module _ {seen : EmitState} (old : EmitState) (is : seen ≡ old) where
   pub begun_before : (a : Outputs) → seen.has_begun ≡ true
@@ -355,7 +356,7 @@ goes_in : {A S T : Type 0} (a b c : Outputs) (xs ys : List Write) (of : T → S)
 goes_in a b c xs ys of t u (Ok x) g h = (gains_then link a b c xs ys g h.0, ap of h.1)
 goes_in a b c xs ys of t u (Err stopped) g h = stops_after link a b c xs ys stopped g h
 
--- what is written after it
+-- if the front was written where necessary, and then other writes went on to this result, all of them together have this result
 pub written_then : {seen : EmitState} (old mid : EmitState) (a b c : Outputs) (ws : ReporterState → List Write)
     (u : ReporterState → ReporterState) (reporting : ReporterState) (result : Result (Unit {0}) LinkFault) → seen ≡ mid
     → Gains a b (begin_writes old) × (mid ≡ with_reporting (begun_reporting old) old)
@@ -369,7 +370,7 @@ written_then old mid a b c ws u reporting result is h k =
     subst P (sym (is ∙ h.1)) (λ g. goes_in a b c (begin_writes old) (ws (begun_reporting old)) (λ t. with_reporting t old) reporting
     (u (begun_reporting old)) result h.0 g) k
 
--- ---- no text is held where an object may end
+-- ---- no text is pending where an object may end
 
 abbrev NoneHeld : Findings → List Part → Type 0
 NoneHeld found before = (known_of before).stage ≡ Between → held_text found before ≡ None
@@ -377,7 +378,7 @@ NoneHeld found before = (known_of before).stage ≡ Between → held_text found 
 some_fault : (broken : ModuleFault) → Some broken ≡ None → ⊥
 some_fault broken e = cc
 
--- a text stands in the body of a module
+-- a text between modules has a fault
 text_in_body : (address : ℕ) (bytes : List ℕ) (stage : Stage) (later : Option ModuleFault)
     → (if may_stand (Text address bytes) stage then later else Some rule.BadOrder) ≡ None → stage ≡ Between → ⊥
 text_in_body address bytes Between later e b = some_fault rule.BadOrder e
@@ -430,7 +431,7 @@ none_held found before n e =
     walked 0 (λ these g. NoneHeld found these) (held_on found) [] before nothing_gathered n (λ b. held_first found)
     (ends_between (known_of before).stage _ e)
 
--- so nothing of it is written
+-- if no text is pending, ending the pending text adds no write
 nothing_held : (a b : Outputs) (ws : List Write) (t : ReporterState) (now s' : EmitState) (result : Result (Unit {0}) LinkFault)
     → t.held ≡ None → Goes a b ws s' (with_reporting t now) result
     → Goes a b (ws ++ held_writes t.held) s' (with_reporting (with_held None t) now) result
@@ -440,7 +441,7 @@ nothing_held a b ws t now s' result e h =
     subst P (sym (ap (λ held. ws ++ held_writes held) e ∙ append-nil ws))
     (subst Q (ap (λ held. with_held held t) e) h)
 
--- ---- blocks and ends, by calls
+-- ---- the end of an object, call by call
 
 module _ {seen : EmitState} (plan : PlanTables) (before : List Part) (s : EmitState) (is : seen ≡ s)
     (stands : EmitAfter plan before s) where
@@ -475,7 +476,7 @@ module _ {seen : EmitState} (plan : PlanTables) (before : List Part) (s : EmitSt
       subst P is (parts_taken plan before (EndOfFile ∷ []) (λ t. held_writes t.held) (with_held None) (end_makes plan before)
       seen here a b s' known result t.0 t.1 k)
 
--- ---- a record, by calls
+-- ---- a record, call by call
 
 module _ {seen : EmitState} (plan : PlanTables) (before : List Part) (s : EmitState) (c : records.Content) (is : seen ≡ s)
     (stands : EmitAfter plan before s) where
@@ -500,7 +501,7 @@ module _ {seen : EmitState} (plan : PlanTables) (before : List Part) (s : EmitSt
       subst P is (parts_taken plan before (parts_of c) (made_by before c) (following before c) (content_makes plan before c)
       seen now a b s' known result t.0 t.1 k)
 
--- one that has no parts
+-- the result of writing the front alone is a result of accepting a record without parts
 pub nothing_taken : (plan : PlanTables) (before : List Part) (s : EmitState) → EmitAfter plan before s → (a b : Outputs) (s' : EmitState)
     (result : Result (Unit {0}) LinkFault) → Goes a b (begin_writes s) s' (with_reporting (begun_reporting s) s) result
     → AcceptsParts plan before (call_of a b s s') [] result
@@ -509,12 +510,12 @@ nothing_taken plan before s stands a b s' result k =
     content_taken plan before s records.InternalSymbols refl stands a b s' s.known result (none_taken s.known tt)
     (subst P (sym (append-nil (begin_writes s))) k)
 
--- the module in which the next record stands
+-- the number of modules that the rules know is the index of the module of the next record
 index_of : (before : List Part) (known : RulesState) → known ≡ known_of before → known.modules ≡ modules_in before
 unfolding known_of
 index_of before known e = ap (λ k. k.modules) e
 
--- a directory record in the module of this index
+-- the result of making the writes of a directory record in the module with this index is a result of accepting its parts
 pub directory_taken : {seen : EmitState} (plan : PlanTables) (before : List Part) (s : EmitState) (entries : List GsdEntry) → seen ≡ s
     → EmitAfter plan before s → (a b : Outputs) (s' : EmitState) (known : RulesState) (index : ℕ) (result : Result (Unit {0}) LinkFault)
     → index ≡ seen.known.modules → RulesTake seen.known known (directory_parts entries) (Ok tt)
@@ -530,7 +531,7 @@ directory_taken {seen} plan before s entries is stands a b s' known index result
     content_taken plan before s (records.Gsd entries) is stands a b s' known result h
     (subst G (l ∙ index_of before seen.known (here plan before s is stands).known) k)
 
--- where the next text stands
+-- the index of a module, and the section that its texts go to
 abbrev Entered : Type 0
 Entered = ℕ × (ℕ × ℕ)
 
@@ -539,7 +540,7 @@ location_of : (before : List Part) (known : RulesState) → known ≡ known_of b
 unfolding known_of
 location_of before known e = ap (λ k. (k.modules, k.section)) e
 
--- a text at this location
+-- the result of writing the pending text before a text at this location is a result of accepting the new text
 pub text_taken : {seen : EmitState} (plan : PlanTables) (before : List Part) (s : EmitState) (address : ℕ) (text : List ℕ) → seen ≡ s
     → EmitAfter plan before s → (a b : Outputs) (s' : EmitState) (known : RulesState) (location : Entered)
     (result : Result (Unit {0}) LinkFault) → ◌≡◌ {A = Entered} location (s.known.modules, s.known.section)
@@ -556,9 +557,9 @@ text_taken {seen} plan before s address text is stands a b s' known location res
     content_taken plan before s (records.Text address text) is stands a b s' known result h
     (subst G (l ∙ location_of before s.known stands.known) k)
 
--- ---- relocations, by calls
+-- ---- relocations, call by call
 
--- what is written first changes no text that is held
+-- counting the messages of the front doesn't change the pending text
 begun_after : (b : Bool) (t : ReporterState) (ws : List Write) (relocations : List Relocation)
     → (if b then relocating relocations t else with_count ws (relocating relocations t))
     ≡ relocating relocations (if b then t else with_count ws t)
@@ -606,7 +607,7 @@ module _ (plan : PlanTables) (before : List Part) (relocations : List Relocation
       (subst Q (begun_after old.has_begun old.reporting (front_writes (planned old.reporting.plan)) relocations)
       (subst P (same_but mid old (relocating relocations old.reporting) e f g) k)))
 
--- relocations that are left are stored one by one
+-- if storing the remaining relocations leads to a state, so does storing the first of them and then the others
 pub stored_more : (now later target : ReporterState) (rest following : List Relocation) (item : Relocation)
     → rest ≡ item ∷ following → relocating rest now ≡ target
     → later ≡ with_held (held_with (planned now.plan) now.held item) now → relocating following later ≡ target
@@ -628,7 +629,7 @@ no_record rule.TooManyGlobals inner e = cc
 no_record rule.TooManySections inner e = cc
 no_record rule.TooManyModules inner e = cc
 
--- no fault of parts is one of a block that is no record
+-- a result of accepting the parts of a valid record is a result of accepting its block
 of_record : (plan : PlanTables) (before : List Part) (a b : Outputs) (s s' : EmitState) (items : List ℕ)
     (result : Result (Unit {0}) LinkFault) → IsRecord items
     → AcceptsParts plan before (call_of a b s s') (record_parts items) result → AcceptsBlock plan before (call_of a b s s') items result
@@ -638,7 +639,7 @@ of_record plan before a b s s' items (Err fault.NoMemory) is h = (is, h)
 of_record plan before a b s s' items (Err (fault.Record inner)) is h = absurd (no_record h.0.0 inner h.0.2)
 of_record plan before a b s s' items (Err stopped) is h = h
 
--- a block was taken, depending on what stands in it
+-- a result of accepting the parts of a block's content is a result of accepting the block
 pub content_block : (plan : PlanTables) (before : List Part) (a b : Outputs) (s s' : EmitState) (items : List ℕ)
     (content : records.Content) (result : Result (Unit {0}) LinkFault) → content_of items ≡ Ok content
     → AcceptsParts plan before (call_of a b s s') (parts_of content) result → AcceptsBlock plan before (call_of a b s s') items result
@@ -647,7 +648,7 @@ content_block plan before a b s s' items content result e h =
     of_record plan before a b s s' items result (ap (λ (r : Result records.Content RecordFault). is_ok r) e)
     (subst P (sym e) h)
 
--- ---- the transfer block, by calls
+-- ---- the transfer block, call by call
 
 pub reporting_after : {seen : EmitState} (old mid : EmitState) → seen ≡ mid → mid ≡ with_reporting (begun_reporting old) old
     → seen.reporting ≡ begun_reporting old

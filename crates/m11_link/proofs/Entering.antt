@@ -1,4 +1,4 @@
--- Entries whose messages are written one after another, and what stands after them. (This project's own.)
+-- Entries whose messages are written one after another, and the reporter's state after them. (This project's own.)
 use Rattle.std.proofs.Common.{◌≡◌, ◌≤◌, ℕ, ◌+◌, cond, Bool, true, false, ◌&&◌, List, [], ◌∷◌, ◌++◌, length, drop, slice_get, Option, Some, None, Result, Ok, Err, IsErrAnd, sym, subst, ap, refl, arith}
 use Rattle.std.specs.Bool.{◌==◌}
 use Rattle.std.proofs.lemmas.Bool.{eqb-true, true≢false}
@@ -55,13 +55,13 @@ pub ruleset entering = (gains_nothing, goes_then, goes_stopped, goes_stopped_alo
 
 -- ---- entries
 
--- going on through the entries that are left completes going through all of them from the start
+-- the result of going on through the remaining entries is the result of going through all entries from the start
 abbrev pub LeadsEntries : ℕ → Outputs → ReporterState → Outputs → ReporterState → List GsdEntry → List GsdEntry → Type 0
 LeadsEntries index start first now state left all = (new : Outputs) (later : ReporterState) (result : Result (Unit {0}) LinkFault)
     → Goes now new (entries_writes (planned state.plan) index state.defined left) later (with_entries index left state) result
     → Goes start new (entries_writes (planned first.plan) index first.defined all) later (with_entries index all first) result
 
--- an entry, and then the others
+-- the state after an entry and then the others is the state after all of them
 one_then : (index : ℕ) (entry : GsdEntry) (entries : List GsdEntry) (t : ReporterState)
     → with_entries index entries (with_entry index entry t) ≡ with_entries index (entry ∷ entries) t
 one_then index entry entries t = ap (λ n. let all : ReporterState = record t {
@@ -188,7 +188,7 @@ section_differs a b t s index section result e h =
     (with_count (cond x [] (section_reported t index section)) t) result in
     subst P (sym e) h
 
--- a symbol, depending on whether it is defined here, and whether it was before
+-- the message about a definition of a symbol that was defined before
 abbrev symbol_reported : ReporterState → ℕ → GsdEntry → List Write
 symbol_reported t index entry = to_messages (multiple_line entry.name (planned_module t.plan index)) ∷ []
 
@@ -248,7 +248,7 @@ symbol_again a b t s index entry result d m h =
     let Q : Bool → Type 0 = λ x. Goes a b (reported_by true x t index entry) s (kept_by true x t index entry) result in
     subst P (sym d) (subst Q (sym m) h)
 
--- ---- by its type
+-- ---- an entry, by its kind
 
 module _ {A : Type 0} (a b : Outputs) (t s : ReporterState) (index : ℕ) (entry : GsdEntry) (result : Result A LinkFault) where
   abbrev Noted : GsdKind → Type 0

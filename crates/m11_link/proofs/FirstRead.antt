@@ -26,7 +26,7 @@ use Rattle.m11_link.proofs.ObjectsRead.{Walked, StopsObject, walk_begins, walk_e
 
 -- ---- one object
 
--- the feed has come after blocks, whose parts the layout has taken
+-- a feed has returned blocks, and the layout has accepted their parts
 pub record Laid (text text' : Option Text) (faults faults' room bottom : ℕ) (before : List Part) (layout : LayoutState)
     : Type 0 where
   pub done : List Item
@@ -45,7 +45,7 @@ laid_first text faults bottom before layout s = record {
   stands = s;
 }
 
--- items that decide, and what comes after them
+-- if the items of an object decide a fault, this fault is a result of laying out the object
 object_decided : (text : Option Text) (faults faults' bottom : ℕ) (before : List Part) (layout : LayoutState)
     (items : List Item) (stopped : LinkFault) → faults' ≡ faults → GivesItems text items → Decides before items stopped
     → LaysOutObject text faults faults' bottom before layout (Err stopped)
@@ -142,7 +142,7 @@ one_object source own o =
     let P : List Item → Type 0 = λ these. AreItems (source ∷ []) these in
     subst P (append-nil own) (objects.AreItems.Object o objects.AreItems.Nothing)
 
--- feeds have come after objects, whose parts the layout has taken
+-- the feeds before this index were read, and the layout has accepted the parts of their objects
 pub record LaidAll {F : Type 0} (text : F → Option Text) (faults : F → ℕ) (initial now : List F) (index : ℕ)
     (bottom : ℕ) (before : List Part) (layout : LayoutState) : Type 0 where
   pub sources : List (List ℕ)
@@ -169,7 +169,7 @@ module _ {F : Type 0} (text : F → Option Text) (faults : F → ℕ) where
       let all = all_read text faults initial now index l.sources l.feeds over in
       (all.0, l.items, record { sources = l.sources; given = all.1; are = l.are }, l.reaches)
 
-  -- one more object
+  -- one more object is laid out
   module _ (initial now : List F) (index bottom : ℕ) (before : List Part) (layout new : LayoutState)
       (l : LaidAll text faults initial now index bottom before layout)
       (inside : index < length now) (d x z : F) (x-is : x ≡ get_or now index d) where

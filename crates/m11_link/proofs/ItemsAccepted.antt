@@ -1,4 +1,4 @@
--- Items taken one after another.
+-- Items accepted one after another.
 use Rattle.std.proofs.Common.{◌≡◌, ◌∙◌, ℕ, List, [], ◌∷◌, ◌++◌, append-nil, Option, Some, None, Result, Ok, Err, refl, sym, ap, subst}
 use Rattle.std.specs.Prelude.{is_ok, true, ⊤}
 use Rattle.std.proofs.Math.Seq.{append_snoc}
@@ -52,7 +52,7 @@ split_fault : (r : PartsOrFault) (f g : List Part → PartsOrFault) (stopped : L
 split_fault (Ok middle) f g stopped e h = h middle e
 split_fault (Err other) f g stopped e h = e
 
--- what comes after a fault says nothing
+-- items after a fault don't change the fault
 pub fault_after : (before : List Part) (xs ys : List Item) (stopped : LinkFault) → taken before xs ≡ Err stopped
     → taken before (xs ++ ys) ≡ Err stopped
 fault_after before [] ys stopped e = absurd cc
@@ -70,7 +70,7 @@ one_taken before item result e = alone (taken_item before item) ∙ e
 
 -- ---- one item
 
--- parts that have no fault after those before them
+-- if two lists of parts have no fault together, the second has no fault after the first
 pub rest_sound : (done before parts : List Part) → first_fault done (before ++ parts) ≡ None
     → first_fault (done ++ before) parts ≡ None
 unfolding first_fault
@@ -102,7 +102,7 @@ pub end_taken : (before : List Part) → first_fault [] (before ++ EndOfFile ∷
     → taken_item before ObjectEnds ≡ Ok (before ++ EndOfFile ∷ [])
 end_taken before e = parts_taken before (EndOfFile ∷ []) e
 
--- after the end of an object another one may stand
+-- if a list with only the end of a file has no fault, the end of a file has no fault
 end_sound : (before : List Part) → first_fault before (EndOfFile ∷ []) ≡ None → fault_of before EndOfFile ≡ None
 unfolding first_fault
 end_sound before e = head_none (fault_of before EndOfFile) None e
@@ -124,7 +124,7 @@ ends_first = refl
 
 -- ---- the fault of an item
 
--- a fault that items have, whatever follows them; a lack of memory, with which any items may stop; never a fault of reading
+-- these items have this fault, whatever follows them; always true of NoMemory, with which any items may stop; never true of Read
 abbrev pub Decides : List Part → List Item → LinkFault → Type 0
 Decides before items fault.Read = ⊥
 Decides before items fault.NoMemory = ⊤

@@ -1,4 +1,4 @@
--- A text that is held is the last text of its module, and keeps its length while relocations are stored in it.
+-- A pending text is the last text of its module, and keeps its length while relocations are stored in it.
 use Rattle.std.proofs.Common.{◌≡◌, ◌∙◌, ℕ, ◌+◌, ◌-◌, List, [], ◌∷◌, ◌++◌, length, Option, Some, None, Result, Ok, Err, IfOk, refl, sym, ap, subst}
 use Rattle.m11_obj.specs.declared.fault.RecordFault.{RecordFault}
 use Rattle.m11_obj.specs.declared.relocations.Relocation.{Relocation}
@@ -70,7 +70,7 @@ as_long_first : (found : Findings) → AsLongAfter found []
 unfolding held_text
 as_long_first found = tt
 
--- after any parts, the text that the second pass holds is as long as the rules say
+-- after any parts, a pending text is as long as the last text that the rules know
 pub held_is_last : (plan : PlanTables) (before : List Part) (state : EmitState) → EmitAfter plan before state
     → HoldsLastText state
 held_is_last plan before state stands =
@@ -81,7 +81,7 @@ held_is_last plan before state stands =
     (walked 0 (λ these g. AsLongAfter found these) (as_long_on found) [] before nothing_gathered stands.sound
     (as_long_first found)))
 
--- ---- a relocation that was judged by the last text
+-- ---- a relocation that was checked against the last text
 
 same_stored : (one other : InText) → ◌≡◌ {A = Option InText} (Some one) (Some other) → one ≡ other
 same_stored one other e = cc
@@ -121,7 +121,7 @@ pub nothing_changed : (found : Findings) (now : ReporterState) (relocation : Rel
 nothing_changed found now relocation text e holds =
     ap (λ held. with_held held now) (sym (same_held found now.held relocation text e holds))
 
--- the beginning of a record leaves the text that was held as the last one
+-- the beginning of a relocation record doesn't change the length of the last text, by which its relocations are stored
 pub stored_after : {seen : EmitState} (state : EmitState) (begun : RulesState) (done : Unit {0}) (later : ReporterState)
     (relocations : List Relocation) (result : Result (Result (Unit {0}) ModuleFault) RecordFault) → seen ≡ state
     → AcceptsOne seen.known begun Relocations (Ok done)
@@ -135,7 +135,7 @@ stored_after {seen} state begun done later relocations (Ok (Ok stored)) is h go 
 stored_after state begun done later relocations (Ok (Err fault)) is h go = tt
 stored_after state begun done later relocations (Err fault) is h go = tt
 
--- after it the text that is held is still the last one
+-- after a relocation is stored, a pending text is still as long as the last text
 pub holds_after : (old new : EmitState) (relocation : Relocation) (done : Unit {0})
     → AcceptsOne old.known new.known (Relocated relocation) (Ok done)
     → new.reporting ≡ with_held (held_with (planned old.reporting.plan) old.reporting.held relocation) old.reporting

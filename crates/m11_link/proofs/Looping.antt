@@ -1,4 +1,4 @@
--- Lists that a link writes, one of their items after another. (This project's own.)
+-- Lists whose items a link writes one after another. (This project's own.)
 use Rattle.std.proofs.Common.{◌≡◌, ◌≤◌, ℕ, ◌+◌, not, codes, Bool, true, false, List, [], ◌∷◌, ◌++◌, length, map, drop, slice_get, Option, Some, None, sym, ap, refl, ◌∙◌}
 use Rattle.std.proofs.lemmas.Bool.{false≢true, true≢false}
 use Rattle.std.proofs.lemmas.List.{drop_all}
@@ -60,7 +60,7 @@ module _ (found : Findings) (is_strong : Bool) (references : List ((ℕ × ℕ) 
   names_end write le =
       ap (λ left. map write (filter_map (undefined_by found is_strong) left)) (drop_all index references le)
 
-  -- lines of the map
+  -- the remaining names are written as the line of the next reference, if it has one, and then the lines of the others
   pub name_left : (reference : (ℕ × ℕ) × Bool) → slice_get references index ≡ Some reference
       → name_writes found is_strong (drop index references)
       ≡ written_if name_write (undefined_by found is_strong reference)
@@ -72,7 +72,7 @@ module _ (found : Findings) (is_strong : Bool) (references : List ((ℕ × ℕ) 
   unfolding name_writes
   name_writes_end le = names_end name_write le
 
--- messages
+-- the remaining messages are the message about the next reference, if it has one, and then those about the others
 module _ (found : Findings) (references : List ((ℕ × ℕ) × Bool)) (index : ℕ) where
   pub message_left : (reference : (ℕ × ℕ) × Bool) → slice_get references index ≡ Some reference
       → undefined_writes found (drop index references)

@@ -15,7 +15,7 @@ use Rattle.m11_link.specs.Objects.{Item, BlockOf, ObjectEnds, Refused, ObjectIte
 use Rattle.m11_link.specs.Objects as objects
 use Rattle.m11_link.proofs.Steady.{block_shorter, object_comes}
 
--- ---- what part of its text a feed gave
+-- ---- the part of its text that a feed returned
 
 gave_all : (t0 t1 t2 : Option Text) (given : List ℕ) → GivesBytes t0 t1 given → GivesEnd t1 t2 → HasBytes t0 given
 gave_all None t1 t2 given g h = tt
@@ -65,7 +65,7 @@ passed_more room left now given more content done p is fits = record {
       (objects.BeginningItems.Begins (is rest) (omega (arith, length-append more rest, fits)) h)));
 }
 
--- a feed has come after the blocks of these items
+-- a feed has returned exactly the bytes of these items
 pub record Walked (text text' : Option Text) (faults faults' room : ℕ) (done : List Item) : Type 0 where
   pub given : List ℕ
   pub took : Took (position text faults most_bytes) (position text' faults' room) given
@@ -78,13 +78,13 @@ walk_begins text faults = record {
   passed = passed_none most_bytes;
 }
 
--- a reader that gave a result goes on
+-- a reader that returned no fault hasn't failed
 pub reads_on : {X : Type 0} (has_failed : Bool) (returned : X) → (IsTrue has_failed ↔ IsErr {E = BlockFault} (Ok returned))
     → has_failed ≡ false
 reads_on false returned h = refl
 reads_on {X} true returned h = absurd (let bad = h.0 refl in cc)
 
--- each block takes some of the room
+-- after each block fewer bytes are left within the limit
 pub block_falls : (here there : Position) (content : List ℕ) → Reads first_block here there content
     → there.room < here.room
 block_falls here there content r =
@@ -98,7 +98,7 @@ module _ (text text1 : Option Text) (faults faults1 room1 : ℕ) (done : List It
   abbrev here : Position
   here = position text1 faults1 room1
 
-  -- the feed goes on to its end, whatever that is
+  -- whatever bytes follow, the object yields the items so far and then others
   pub walk_whole : (items : List Item) × GivesItems text (done ++ items)
   walk_whole =
       let more = gave_more text text1 w.given w.took.gave in
@@ -112,7 +112,7 @@ module _ (text text1 : Option Text) (faults faults1 room1 : ℕ) (done : List It
     abbrev there : Position
     there = position text2 faults2 room2
 
-    -- one block more
+    -- after a further block the items so far include it
     pub walk_more : (content : List ℕ) → Reads first_block here there content
         → Walked text text2 faults faults2 room2 (done ++ BlockOf content ∷ [])
     walk_more content r = record {
@@ -121,7 +121,7 @@ module _ (text text1 : Option Text) (faults faults1 room1 : ℕ) (done : List It
       passed = passed_more most_bytes room1 room2 w.given r.given content done w.passed r.is r.took.room;
     }
 
-    -- the object ends
+    -- if the feed ends before another block, the object yields the items so far and then its end
     pub walk_ends : Stops first_block here there EndsBetween
         → GivesItems text (done ++ ObjectEnds ∷ []) × (faults2 ≡ faults)
     walk_ends s =
@@ -197,7 +197,7 @@ module _ (text text1 : Option Text) (faults faults1 room1 : ℕ) (done : List It
           },
         )
 
-    -- no block came
+    -- what is known of the object if this fault was returned instead of a block
     abbrev pub StopsObject : LinkFault → Type 0
     StopsObject fault.Read = Rises faults faults2 × BeginsItems text done
     StopsObject stopped = (faults2 ≡ faults) × GivesItems text (done ++ Refused stopped ∷ [])

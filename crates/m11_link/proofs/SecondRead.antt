@@ -33,7 +33,7 @@ use Rattle.m11_link.proofs.ObjectsRead.{StopsObject, Walked, walk_begins, walk_e
 use Rattle.m11_base_writes.proofs.Writing.{gains_nothing, gains_then, stops_after}
 use Rattle.m11_link_layout.proofs.Standing.{sound_after}
 
--- ---- what is written
+-- ---- the writes so far
 
 gains_on : (first now new : Outputs) (some all : List Write) → Gains first now some → GoesOn (Gains now new) some all
     → Gains first new all
@@ -60,13 +60,13 @@ between_of : (first new : Outputs) (some all : List Write) → Gains first new s
     → StopsBetween first new all
 between_of first new some all g b = record { done = some; more = b.0; split = b.1; gains = g }
 
--- what is written, whether or not writing has begun, is a beginning of what is written once it has
+-- the writes for parts, with or without the front, are a beginning of the writes with the front
 begins_all : (plan : PlanTables) (has_begun : Bool) (parts : List Part)
     → Begins (written plan has_begun parts) (written plan true parts)
 begins_all plan false parts = (written plan true parts, refl)
 begins_all plan true parts = ([], sym (append-nil (written plan true parts)))
 
--- ---- whether a call was Ok
+-- ---- whether the front is written
 
 begun_one : (has_begun : Bool) (items : List Item) (item : Item) → begun_by has_begun (items ++ item ∷ []) ≡ true
 begun_one has_begun [] item = refl
@@ -132,7 +132,7 @@ module _ (plan : PlanTables) (b has_begun : Bool) (before : List Part) (items : 
 
 -- ---- an item that stops the reading
 
--- an item was taken, and it stops among what is written after it
+-- an item has no fault, and `Stop` holds of the writes that it adds
 abbrev Within : PlanTables → Bool → List Part → Item → (List Write → Type 0) → Type 0
 Within plan has_begun parts item Stop = (these : List Part) × (taken_item parts item ≡ Ok these)
     × GoesOn Stop (written plan has_begun parts) (written plan true these)
@@ -182,7 +182,7 @@ module _ (plan : PlanTables) (parts : List Part) (sound : first_fault [] parts �
   end_halts fault.NoMemory h = end_memory h
   end_halts stopped h = (end_decides parts stopped h.0, h.1)
 
--- a fault that one item decides is its own
+-- if a list of one item has a fault, the item has this fault
 refused_alone : (parts : List Part) (item : Item) (stopped : LinkFault) → taken parts (item ∷ []) ≡ Err stopped
     → taken_item parts item ≡ Err stopped
 refused_alone parts item stopped e = alone (taken_item parts item) e
@@ -291,7 +291,7 @@ sent_first text faults plan before first now emit s g = record {
   gains = g;
 }
 
--- all that parts make was written, if the emitter has begun
+-- if the writes so far were made, and then those that further parts add, the writes for all these parts were made
 written_on : (first now new : Outputs) (plan : PlanTables) (parts more : List Part) (emit emit' : EmitState)
     → Gains first now (written plan emit.has_begun parts)
     → (emit'.has_begun ≡ true)
@@ -356,7 +356,7 @@ module _ (text text1 : Option FeedText) (faults faults1 room1 : ℕ) (plan : Pla
       l.begun l.gains end.1 (subst P (sym (append-nil (l.done ++ ObjectEnds ∷ []))) end.0) stopped
       (end_halts plan l.parts l.stands.sound now new emit emit' stopped t)
 
-  -- the feed gave no block, and nothing more was written
+  -- exactly the writes for the items so far were made
   exactly_now : WrittenAfter plan b before l.done first now
   exactly_now =
       let P : Bool → Type 0 = λ x. Gains first now (written plan x l.parts) in
@@ -437,7 +437,7 @@ module _ {F : Type 0} (text : F → Option FeedText) (faults : F → ℕ) where
       let all = all_read text faults initial here index l.sources l.feeds over in
       (all.0, l.items, record { sources = l.sources; given = all.1; are = l.are }, l.emitted)
 
-  -- one more object
+  -- one more object is read
   module _ (initial here : List F) (index : ℕ) (plan : PlanTables) (b : Bool) (before : List Part)
       (first now new : Outputs) (emit emit' : EmitState)
       (l : SentAll text faults initial here index plan b before first now emit)
@@ -521,7 +521,7 @@ module _ {F : Type 0} (text : F → Option FeedText) (faults : F → ℕ) where
 
 -- ---- the end
 
--- an emitter that hasn't begun has written nothing
+-- a second pass that hasn't written the front has written nothing
 pub nothing_written : (plan : PlanTables) (old : Outputs) (has_begun : Bool) → has_begun ≡ false
     → Gains old old (written plan has_begun [])
 nothing_written plan old has_begun e =

@@ -15,7 +15,7 @@ use Rattle.m11_link.specs.Objects.{AreItems, BlockOf, Item, ObjectEnds, ObjectIt
 use Rattle.m11_link.specs.Objects as objects
 use Rattle.m11_link.proofs.Steady.{Steady, block_steady, content_again, content_refused, content_steady, count_steady, count_within, refuse, second_steady, start_steady, stop_is}
 
--- the bytes before the rest say the same alone
+-- a value or a refusal needs no bytes after it: the bytes before the rest yield the same alone
 pub record Sole {A : Type 0} (read : List ℕ → Read BlockFault A) : Type 0 where
   pub ok : (p : List ℕ) (x : A) (rest : List ℕ) → read p ≡ Ok (x, rest)
       → (front : List ℕ) × (p ≡ front ++ rest) × (read front ≡ Ok (x, []))
@@ -255,7 +255,7 @@ take_after front rest room le =
     within_is : (n room : ℕ) → n ≤ room → room ≡ n + (room - n)
     within_is n room le = omega (arith, le)
 
--- a read that is decided within the room isn't short there
+-- if the bytes that decide a read are within the limit, the bytes within the limit aren't too few to decide it
 module _ (room : ℕ) (bytes front rest : List ℕ) (is : bytes ≡ front ++ rest)
     (within : length bytes ≤ length rest + room) where
   short_front : length front ≤ room

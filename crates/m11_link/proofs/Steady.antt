@@ -15,7 +15,7 @@ use Rattle.m11_link_layout.specs.declared.fault.LinkFault.TheVariants as fault'
 use Rattle.m11_link.specs.Objects as objects
 use Rattle.m11_link.specs.Objects.{Item, ObjectItems, AreItems}
 
--- a value or a refusal is the same whatever follows, and no bytes come back
+-- a value or a refusal is the same whatever bytes follow, and no more bytes are left after a value than there were before it
 pub record Steady {A : Type 0} (read : List ℕ → Read BlockFault A) : Type 0 where
   pub ok : (p q : List ℕ) (x : A) (rest : List ℕ) → read p ≡ Ok (x, rest) → read (p ++ q) ≡ Ok (x, rest ++ q)
   pub refused : (p q : List ℕ) (inner : BlockFault) (rest : List ℕ) → read p ≡ Err (Refused inner rest)
@@ -75,7 +75,7 @@ done_shorter : {A : Type 0} (x y : A) (xs ys : List ℕ) → done {Fault = Block
     → length ys ≤ length xs
 done_shorter x y xs ys e = omega (arith, ap length (rest_is x y xs ys e))
 
--- zeros and the 001
+-- the zeros and the 001 at the start of a block are at least one byte, and are read in the same way whatever follows
 start_ok : (p q : List ℕ) (x : Unit {0}) (rest : List ℕ) → start p ≡ Ok (x, rest)
     → (start (p ++ q) ≡ Ok (x, rest ++ q)) × (length rest < length p)
 start_ok [] q x rest e = absurd cc
@@ -137,7 +137,7 @@ second_steady = record {
           | inr some ↦ absurd (let bad = some.1 in cc)
         ]
 
--- the length: one that is read is within its bounds
+-- if a length is accepted, it is within its bounds
 pub count_within : (n : ℕ) (p : List ℕ) (x : ℕ) (rest : List ℕ) → count_of n p ≡ Ok (x, rest)
     → (ltb n 4 ≡ false) × (ltb (content_limit + 4) n ≡ false) × (done {Fault = BlockFault} (n - 4) p ≡ done x rest)
 count_within n p x rest e =
@@ -193,7 +193,7 @@ count_steady = record {
     count_shorter (low ∷ []) x rest e = absurd cc
     count_shorter (low ∷ high ∷ p) x rest e = omega (arith, (count_of_ok (low + 256 * high) p [] x rest e).1)
 
--- the content
+-- bytes that begin with a content of this length yield this content
 pub content_again : (xs rest : List ℕ) → content_of (length xs) (xs ++ rest) ≡ Ok (xs, rest)
 content_again xs rest =
     let long : ltb (length (xs ++ rest)) (length xs) ≡ false = le-ltb _ _ (omega (arith, length-append xs rest)) in
@@ -225,7 +225,7 @@ module _ (n : ℕ) where
     shorter = content_shorter;
   }
 
--- the sum byte
+-- the sum byte after this content
 module _ (xs : List ℕ) where
   abbrev last : ℕ
   last = sum_byte (header (length xs) ++ xs)
@@ -280,7 +280,7 @@ pub block_steady : Steady first_block
 unfolding first_block
 block_steady = steady_then start after_start start_steady second_then
 
--- a block has bytes
+-- a block has at least one byte
 pub block_shorter : (p content rest : List ℕ) → first_block p ≡ Ok (content, rest) → length rest < length p
 unfolding first_block
 block_shorter p content rest e =
@@ -292,7 +292,7 @@ block_shorter p content rest e =
 abbrev Come : ℕ → List ℕ → Type 0
 Come room bytes = (items : List Item) × ObjectItems room bytes items
 
--- bytes of which those within the limit are too few to decide
+-- if the bytes within the limit are too few to decide, the object passes the limit or yields this item alone
 past_or : (room : ℕ) (bytes : List ℕ) (item : Item) → IsShort (first_block (take room bytes))
     → (length bytes ≤ room → ObjectItems room bytes (item ∷ [])) → Come room bytes
 past_or room bytes item short whole =

@@ -1,4 +1,4 @@
--- What parts write, one after another, with the text that is held: the same as all parts together.
+-- The writes of parts, one after another with the pending text, are the writes of all parts together.
 use Rattle.std.proofs.Common.{◌≡◌, ℕ, Bool, true, false, if◌then◌else◌, List, [], ◌∷◌, ◌++◌, map, append_assoc, append-nil, Option, Some, None, refl, sym, ap, ap₂, ◌∙◌}
 use Rattle.std.specs.List.{cons_option}
 use Rattle.std.specs.Map.{keys_of}
@@ -22,7 +22,7 @@ use Rattle.m11_link.specs.Written.{PlacedText, defined_names, ended_writes, entr
 
 -- ---- part by part
 
--- what a part makes where a text may be held before it
+-- the writes at a part, given the pending text before it, if there is one
 abbrev pub reported_at : Findings → List Part → Option PlacedText → Part → List Write
 reported_at found before held Relocations = []
 reported_at found before held (Relocated relocation) = []
@@ -35,7 +35,7 @@ reported_all found before held [] = []
 reported_all found before held (part ∷ parts) =
     reported_at found before held part ++ reported_all found (before ++ part ∷ []) (held_at found before held part) parts
 
--- what a held text makes once it has ended
+-- the write of a pending text if these parts end it
 abbrev left_open : Findings → Option PlacedText → List Part → List Write
 left_open found None parts = []
 left_open found (Some text) parts = ended_writes found text parts
@@ -94,7 +94,7 @@ held_append found before held (x ∷ xs) ys =
     held_append found (before ++ x ∷ []) (held_at found before held x) xs ys
     ∙ ap (λ all. held_after found all (held_after found before held (x ∷ xs)) ys) (append_snoc before x xs)
 
--- parts after others write what they make by what is held
+-- the writes of two lists of parts are those of the first, and then those of the second, given the text that is pending between them
 pub parts_more : (found : Findings) (before parts : List Part)
     → parts_writes found (before ++ parts) ≡ parts_writes found before ++ reported_all found before (held_text found before) parts
 unfolding parts_writes held_text

@@ -54,7 +54,8 @@ held_with_all found held [] = held
 held_with_all found held (relocation ∷ relocations) =
     held_with_all found (held_with found held relocation) relocations
 
--- the pending text after a part: every part but those of a relocation record ends it, and a text becomes the pending one
+-- the pending text after a part: a text becomes the pending one; the parts of a relocation record keep it pending, and each relocation
+-- is applied to it; after any other part, no text is pending
 abbrev pub held_at : Findings → List Part → Option PlacedText → Part → Option PlacedText
 held_at found before held (Text address bytes) =
     Some (placed_text found (modules_in before) (current_section (this_module before)) address bytes)
@@ -70,7 +71,7 @@ held_after found before held (part ∷ parts) =
 unfoldable pub held_text : Findings → List Part → Option PlacedText
 held_text found parts = held_after found [] None parts
 
--- a pending text, if there is one, is as long as the last text, against whose length relocations are checked
+-- a pending text, if there is one, has this length: that of the last text, against which relocations are checked
 abbrev pub IsAsLong : Option ℕ → Option PlacedText → Type 0
 IsAsLong text_length None = ⊤
 IsAsLong text_length (Some held) = text_length ≡ Some (length held.bytes)
@@ -123,7 +124,7 @@ with_entries module_index entries t = record t {
 abbrev pub relocated_parts : List Relocation → List Part
 relocated_parts relocations = map (λ relocation. Relocated relocation) relocations
 
--- the state with this text pending; its address is relative to the base of the contribution of this module to this section
+-- the state with this text pending; the text's address is relative to the base of this module's contribution to this section
 abbrev pub with_text : ℕ → Name → ℕ → Bytes → ReporterState → ReporterState
 with_text module_index section address bytes t =
     with_held (Some (placed_text (planned t.plan) module_index section address bytes)) t
@@ -137,7 +138,8 @@ directory_writes module_index entries t =
 abbrev pub with_directory : ℕ → List GsdEntry → ReporterState → ReporterState
 with_directory module_index entries t = with_entries module_index entries (with_held None t)
 
--- these writes were made, and the state is the expected one; or an output failed at one of them, or memory was refused between them
+-- these writes were made, and the state is the expected one; or an output failed at one of the writes; or memory was refused, and a
+-- prefix of the writes was made
 abbrev pub Goes : {A S : Type 0} → Outputs → Outputs → List Write → S → S → Result A LinkFault → Type 0
 Goes old new writes state expected (Ok done) = Gains old new writes × (state ≡ expected)
 Goes old new writes state expected (Err stopped) = Stops old new writes stopped
@@ -179,7 +181,7 @@ abbrev pub written : PlanTables → Bool → List Part → List Write
 written plan has_begun parts =
     if has_begun then front_writes (planned plan) ++ parts_writes (planned plan) parts else []
 
--- the state of a second pass after these parts, none of which has a fault
+-- the parts have no fault, and `state` is the state of a second pass after them
 pub record EmitAfter (plan : PlanTables) (parts : List Part) (state : EmitState) : Type 0 where
   pub sound : first_fault [] parts ≡ None
   pub known : state.known ≡ known_of parts
@@ -196,7 +198,7 @@ pub record GoesOn (Went : List Write → Type 0) (so_far all : List Write) : Typ
   pub split : all ≡ so_far ++ more
   pub went : Went more
 
--- a call of a second pass: the outputs and the state of the pass, before and after it
+-- a call of a second pass: the outputs and the state of the pass, before and after the call
 pub record Call : Type 0 where
   pub old : Outputs
   pub new : Outputs
@@ -207,8 +209,8 @@ abbrev pub call_of : Outputs → Outputs → EmitState → EmitState → Call
 call_of old new stood stands = record { old = old; new = new; stood = stood; stands = stands }
 
 -- parts weren't accepted: their first fault was returned, and nothing was written; or they have no fault, but an output failed or
--- memory was refused; or memory was refused before anything was written, for a part that adds a name, and no part up to it has a
--- fault
+-- memory was refused; or memory was refused before anything was written, for a part that adds a name, and neither that part nor one
+-- before it has a fault
 abbrev pub StopsInParts : PlanTables → List Part → Outputs → Outputs → EmitState → List Part → LinkFault → Type 0
 StopsInParts plan before old new state parts (fault.Write output) = (first_fault before parts ≡ None)
     × GoesOn (StopsIn output old new) (written plan state.has_begun before) (written plan true (before ++ parts))
@@ -225,7 +227,7 @@ AcceptsParts plan before call parts (Ok done) = EmitAfter plan (before ++ parts)
     × GoesOn (Gains call.old call.new) (written plan call.stood.has_begun before) (written plan true (before ++ parts))
 AcceptsParts plan before call parts (Err stopped) = StopsInParts plan before call.old call.new call.stood parts stopped
 
--- a block that isn't a valid record, for which nothing is written; or the result for the record's parts
+-- the block isn't a valid record, and nothing was written; or this is the result for the record's parts
 abbrev pub AcceptsBlock : PlanTables → List Part → Call → Bytes → Result (Unit {0}) LinkFault → Type 0
 AcceptsBlock plan before call bytes (Err (fault.Record inner)) = (content_of bytes ≡ Err inner) × (call.new ≡ call.old)
 AcceptsBlock plan before call bytes (Err (fault.Write output)) = IsRecord bytes

@@ -11,12 +11,13 @@ use Rattle.m11_link_layout.specs.declared.fault.LinkFault.{LinkFault}
 use Rattle.m11_link_layout.specs.declared.fault.LinkFault.TheVariants as fault
 use Rattle.m11_link.specs.Objects.{Item, taken, outcome, GivesItems, BeginsItems, GiveItems, FailAfter}
 
--- the state of the layout after these parts, after which an object may end
+-- `layout` is the state of the layout after these parts, and an object may end after them
 pub record LayoutBetween (bottom : ℕ) (parts : List Part) (layout : LayoutState) : Type 0 where
   pub stands : LayoutAfter bottom parts layout
   pub between : fault_of parts EndOfFile ≡ None
 
--- the items have no fault after the earlier parts, an object may end after all of them, and this is then the state of the layout
+-- the items have no fault after the earlier parts, an object may end after the last item, and `layout` is the state of the layout
+-- after these items
 pub record Reaches (bottom : ℕ) (before : List Part) (items : List Item) (layout : LayoutState) : Type 0 where
   pub parts : List Part
   pub taken-is : taken before items ≡ Ok parts
@@ -26,8 +27,8 @@ pub record Reaches (bottom : ℕ) (before : List Part) (items : List Item) (layo
 abbrev pub AreAccepted : List Part → List Item → Type 0
 AreAccepted before items = (parts : List Part) × (taken before items ≡ Ok parts)
 
--- one object was laid out after these parts; or its first fault was returned, whatever follows it; or the feed failed, and the
--- bytes before the failure have no fault; or memory was refused
+-- one object was laid out after these parts; or its first fault was returned; or the feed failed, and the bytes before the failure
+-- have no fault; or memory was refused
 abbrev pub LaysOutObject : Option Text → ℕ → ℕ → ℕ → List Part → LayoutState → Result (Unit {0}) LinkFault → Type 0
 LaysOutObject text faults faults' bottom before layout (Ok done) =
     (faults' ≡ faults) × (items : List Item) × GivesItems text items × Reaches bottom before items layout
@@ -48,8 +49,8 @@ LaysOut pass bottom before layout (Err fault.NoMemory) = NoneFailed pass.faults 
 LaysOut pass bottom before layout (Err stopped) = NoneFailed pass.faults pass.old pass.new
     × (items : List Item) × GiveItems pass.text pass.old items × (taken before items ≡ Err stopped)
 
--- the whole first pass: a plan of the parts that the objects yield; or their first fault; or a feed failed, and the bytes before
--- the failure have no fault; or memory was refused
+-- the whole first pass returned a plan of the parts that the objects yield; or it returned the first fault of the objects; or a feed
+-- failed, and the bytes before the failure have no fault; or memory was refused
 abbrev pub ReadsFirst : {F : Type 0} → Pass F → ℕ → Result PlanTables LinkFault → Type 0
 ReadsFirst pass bottom (Ok plan) = NoneFailed pass.faults pass.old pass.new
     × (items : List Item) × GiveItems pass.text pass.old items

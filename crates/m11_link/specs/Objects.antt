@@ -1,4 +1,4 @@
--- The items that the bytes of objects yield, and what a link makes of them: the parts of all records, or the first fault in the
+-- The items that the bytes of objects yield, and the outcome of linking them: the parts of all records, or the first fault in the
 -- order of the bytes. (RT-11 Volume and File Formats Manual, "Object file format". The limit on an object's size, and the faults
 -- and their order, are this project's own.)
 use Rattle.std.specs.Prelude.{◌≡◌, ◌<◌, ◌≤◌, ℕ, ◌+◌, List, [], ◌∷◌, ◌++◌, length, take, Option, Some, None, Result, Ok, Err, if◌then◌else◌}
@@ -30,7 +30,7 @@ pub data Item : Type 0 where
   -- bytes that are refused; what follows them is ignored
   Refused : LinkFault → Item
 
--- these bytes of an object yield these items, where the limit allows this many more bytes
+-- these bytes of an object yield these items if the limit allows this many more bytes
 pub data ObjectItems : ℕ → Bytes → List Item → Type 0 where
   -- a block whose bytes are within the limit, and then the items of the following bytes
   Begins : {room left : ℕ} {bytes rest content : Bytes} {items : List Item}
@@ -42,15 +42,16 @@ pub data ObjectItems : ℕ → Bytes → List Item → Type 0 where
   -- the bytes end inside a block
   IsCut : {room : ℕ} {bytes : Bytes} → first_block bytes ≡ Err Inside → length bytes ≤ room
       → ObjectItems room bytes (Refused (fault.Block block.Truncated) ∷ [])
-  -- bytes that aren't a block, as a byte within the limit shows
+  -- bytes that don't begin with a block; the byte that shows this is within the limit
   IsBad : {room : ℕ} {bytes rest : Bytes} {inner : BlockFault}
       → first_block bytes ≡ Err (limited.Refused inner rest) → length bytes ≤ length rest + room
       → ObjectItems room bytes (Refused (fault.Block inner) ∷ [])
-  -- the object is longer than the limit, and its bytes up to the limit don't decide what comes next
+  -- the object is longer than the limit, and its bytes up to the limit end before or inside a block
   Passes : {room : ℕ} {bytes : Bytes} → room < length bytes → IsShort (first_block (take room bytes))
       → ObjectItems room bytes (Refused fault.TooMuch ∷ [])
 
--- the items of the beginning of an object whose other bytes are unknown: its whole blocks
+-- these bytes are the beginning of an object, within the limit, and these items are the whole blocks in them; the object's other bytes
+-- are unknown
 pub data BeginningItems : ℕ → Bytes → List Item → Type 0 where
   Begins : {room left : ℕ} {bytes rest content : Bytes} {items : List Item}
       → first_block bytes ≡ Ok (content, rest) → length bytes + left ≡ length rest + room
@@ -71,7 +72,7 @@ abbrev pub ◌>>=◌ : {A B : Type 0} → Result A LinkFault → (A → Result B
 (Ok x) >>= f = f x
 (Err e) >>= f = Err e
 
--- the parts of a block that is a valid record; otherwise its fault, as a fault of the link
+-- the parts of a valid record; or the fault of a block that isn't one, as a fault of the link
 abbrev pub parts_or_fault : Result records.Content RecordFault → Result (List Part) LinkFault
 parts_or_fault (Ok content) = Ok (parts_of content)
 parts_or_fault (Err inner) = Err (fault.Record inner)
@@ -122,13 +123,13 @@ pub record BeginsItems (text : Option Text) (items : List Item) : Type 0 where
   pub has : BeginsWith text beginning
   pub are : BeginningItems most_bytes beginning items
 
--- the objects of feeds yield these items
+-- the objects of these feeds yield these items, one object after another
 pub record GiveItems {F : Type 0} (text : F → Option Text) (feeds : List F) (items : List Item) : Type 0 where
   pub sources : List Bytes
   pub given : GiveAll text feeds sources
   pub are : AreItems sources items
 
--- a feed failed after a prefix of its object; the objects before it and this prefix yield these items
+-- a feed failed after a prefix of its object; the items are those of the earlier objects, and then those of this prefix
 pub record FailAfter {F : Type 0} (text : F → Option Text) (faults : F → ℕ) (feeds feeds' : List F)
     (items : List Item) : Type 0 where
   pub sources : List Bytes

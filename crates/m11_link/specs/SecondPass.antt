@@ -43,7 +43,7 @@ pub record StopsBefore (plan : PlanTables) (has_begun : Bool) (before : List Par
   pub exactly : WrittenAfter plan has_begun before done old new
   pub refused : taken_item exactly.parts item ≡ Err stopped
 
--- the pass stops among the writes for the items before the first fault
+-- some prefix of the items has no fault, and the pass stops among the writes of the front and of this prefix
 pub record StopsWithin (Stop : List Write → Type 0) (plan : PlanTables) (before : List Part) (items : List Item) : Type 0
   where
     pub done : List Item
@@ -53,15 +53,15 @@ pub record StopsWithin (Stop : List Write → Type 0) (plan : PlanTables) (befor
     pub taken-is : taken before done ≡ Ok parts
     pub stops : Stop (written plan true parts)
 
--- while the writes for the items before the first fault were made, an output failed or memory was refused; or all of them were made, and
--- the next item was refused
+-- an output failed or memory was refused among the writes for a prefix of the items, which has no fault; or exactly the writes for such
+-- a prefix were made, and the next item was refused
 abbrev pub StopsAt : LinkFault → PlanTables → Bool → List Part → List Item → Outputs → Outputs → Type 0
 StopsAt (fault.Write output) plan has_begun before items old new =
     StopsWithin (StopsIn output old new) plan before items
 StopsAt fault.NoMemory plan has_begun before items old new = StopsWithin (StopsBetween old new) plan before items
 StopsAt stopped plan has_begun before items old new = StopsBefore plan has_begun before items stopped old new
 
--- a fault other than a failed write or refused memory is the first one of the items
+-- if the fault isn't a failed write or refused memory, it is the first fault of the items
 abbrev pub IsOfItems : List Part → List Item → LinkFault → Type 0
 IsOfItems before items (fault.Write output) = ⊤
 IsOfItems before items fault.NoMemory = ⊤
@@ -69,8 +69,8 @@ IsOfItems before items stopped = taken before items ≡ Err stopped
 
 -- ---- one object and several objects
 
--- the items have no fault after the earlier parts, an object may end after all of them, this is then the state of the pass, and
--- exactly the output for all parts so far was written
+-- the items have no fault after the earlier parts, an object may end after the last item, `emit` is the state of the pass after
+-- these items, and exactly the output for all parts so far was written
 pub record Emitted (plan : PlanTables) (has_begun : Bool) (before : List Part) (items : List Item) (first now : Outputs)
     (emit : EmitState) : Type 0 where
   pub parts : List Part
@@ -121,7 +121,7 @@ Emits pass start now emit (Err stopped) = NoneFailed pass.faults pass.old pass.n
 
 -- ---- the whole second pass, and the run
 
--- the items have no fault, and the pass stops among all writes of the link, or while it flushes the outputs after them
+-- the items have no fault, and the pass stops among the writes of the whole link, or among the flushes after them
 pub record StopsLast (Stop : List Write → Type 0) (plan : PlanTables) (items : List Item) : Type 0 where
   pub parts : List Part
   pub taken-is : taken [] items ≡ Ok parts
@@ -137,9 +137,9 @@ StopsLink fault.NoMemory plan items old new =
 StopsLink stopped plan items old new = StopsBefore plan false [] items stopped old new
 
 -- the second pass with a plan: the items have no fault, everything is written, the messages are counted, and tape and map hold
--- nothing back; or a feed failed or an item was refused, and exactly the writes for the items before that were made; or an output
--- failed at a write, or memory was refused between two writes, for the items before the first fault or at the end of the pass, and
--- nothing was written afterwards
+-- nothing back; or a feed failed or an item was refused, and exactly the writes for the earlier items were made; or an output failed
+-- or memory was refused, among the writes for the items before the first fault or at the end of the pass, and nothing was written
+-- afterwards
 abbrev pub ReadsSecond : {F : Type 0} → Pass F → PlanTables → Outputs → Outputs → Result LinkDone LinkFault → Type 0
 ReadsSecond pass plan old new (Ok done) = NoneFailed pass.faults pass.old pass.new
     × (items : List Item) × GiveItems pass.text pass.old items
@@ -152,8 +152,8 @@ ReadsSecond pass plan old new (Err stopped) = NoneFailed pass.faults pass.old pa
     × (items : List Item) × GiveItems pass.text pass.old items × IsOfItems [] items stopped
     × StopsLink stopped plan items old new
 
--- the run: the second pass with the plan of the first; or the fault of the first pass, where the feeds of the second are unchanged
--- and `Untouched` holds
+-- the run: the first pass returned a plan, and this is the result of the second pass with it; or this is the fault of the first
+-- pass, the feeds of the second are unchanged, and `Untouched` holds
 abbrev pub LinkRunsOr : {F : Type 0} → Type 0 → Pass F → Pass F → ℕ → Outputs → Outputs → Result LinkDone LinkFault
     → Type 0
 LinkRunsOr Untouched first second bottom old new (Ok done) =
@@ -162,6 +162,6 @@ LinkRunsOr Untouched first second bottom old new (Err stopped) =
     (ReadsFirst first bottom (Err stopped) × (second.new ≡ second.old) × Untouched)
     ⊎ ((plan : PlanTables) × ReadsFirst first bottom (Ok plan) × ReadsSecond second plan old new (Err stopped))
 
--- the run, in which a first pass that is refused leaves the outputs unchanged
+-- the run; if the first pass returns a fault, the outputs are unchanged
 abbrev pub LinkRuns : {F : Type 0} → Pass F → Pass F → ℕ → Outputs → Outputs → Result LinkDone LinkFault → Type 0
 LinkRuns first second bottom old new result = LinkRunsOr (new ≡ old) first second bottom old new result

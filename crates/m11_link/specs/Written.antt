@@ -49,7 +49,7 @@ with_relocation found text relocation = record text {
   bytes = relocated found text.module_index text.base text.address relocation text.bytes;
 }
 
--- a text after these relocations are stored in order
+-- a text after the values of these relocations are stored in it, in their order
 abbrev pub with_relocations : Findings → PlacedText → List Relocation → PlacedText
 with_relocations found text [] = text
 with_relocations found text (relocation ∷ relocations) =
@@ -106,7 +106,7 @@ symbol_writes found module_index defined entry =
     if defines entry && is_among defined entry.name
     then to_messages (multiple_line entry.name (found.module_name module_index)) ∷ [] else []
 
--- the messages about an entry of the module with this index; these names are defined before it
+-- the message about an entry of the module with this index, if there is one; these names were defined before the entry
 abbrev pub writes_by : GsdKind → Findings → ℕ → List Name → GsdEntry → List Write
 writes_by GlobalSymbol found module_index defined entry = symbol_writes found module_index defined entry
 writes_by kind found module_index defined entry = different_writes found module_index (attributes_by kind entry)
@@ -132,7 +132,7 @@ writes_after found before (part ∷ parts) =
 unfoldable pub parts_writes : Findings → List Part → List Write
 parts_writes found parts = writes_after found [] parts
 
--- the whole link: messages about undefined globals, the map, the output for the parts, and the transfer block
+-- the writes of the whole link: messages about undefined globals, the map, the output for the parts, and the transfer block
 abbrev pub link_writes : Findings → List Part → List Write
 link_writes found parts =
     (front_writes found ++ parts_writes found parts) ++ to_product (tape_block found.transfer []) ∷ []

@@ -70,10 +70,10 @@ impl Emit {
 
     /// Accepts one block: writes the messages about its entries and, if the block ends the pending text, that text.
     ///
-    /// The first call that isn't refused, of whichever method, first writes the messages about undefined globals and the map. Errors:
-    /// `Record`, if the block isn't a valid record; otherwise the first fault of its parts, in their order; in both cases nothing
-    /// is written. `Write`, if an output failed, after which nothing is written. `NoMemory`, if memory is refused, and no part up
-    /// to the one that needs it has a fault. After an error, every call returns it again and writes nothing.
+    /// The first call that isn't refused, of any method, begins by writing the messages about undefined globals and the map. Errors:
+    /// `Record`, if the block isn't a valid record; otherwise the first fault of its parts, in their order; in both cases nothing is
+    /// written. `Write`, if an output failed, after which nothing is written. `NoMemory`, if memory is refused for a part, and neither
+    /// that part nor one before it has a fault. After an error, every call returns it again and writes nothing.
     pub fn feed<S: Sink, T: Sink, U: Sink>(
         &mut self,
         block: &Block,
@@ -128,8 +128,8 @@ impl Emit {
     /// Ends the second pass: writes the transfer block, and before it the front if it wasn't written yet; then flushes the tape and
     /// the map. Returns the number of messages.
     ///
-    /// Errors: an earlier one, after which nothing is written; `BadOrder` inside a module; `Write`, if an output failed, perhaps
-    /// when it was flushed; `NoMemory`, if memory is refused for the transfer block.
+    /// Errors: the error of an earlier call, or `BadOrder` inside a module, and then nothing is written; `Write`, if an output
+    /// failed, perhaps when it was flushed; `NoMemory`, if memory is refused for the transfer block.
     pub fn end<S: Sink, T: Sink, U: Sink>(
         mut self,
         tape: &mut S,
@@ -308,8 +308,8 @@ impl Emit {
         self.write_held(tape, map, messages)
     }
 
-    // Accepts a relocation record from the bytes of its block. The relocations are stored while they are checked, since the text
-    // that they change is still pending. All of them are checked before anything is written.
+    // Accepts a relocation record from the bytes of its block. Each relocation's value is stored as soon as it is checked, since
+    // the text that it changes is still pending. All relocations are checked before anything is written.
     fn accept_relocations<T: Sink, U: Sink>(
         &mut self,
         unread: &mut UnreadRelocations<'_>,
@@ -330,8 +330,8 @@ impl Emit {
         self.begin(map, messages)
     }
 
-    // Checks that a relocation record may come here, then reads, checks and stores its relocations. The inner result has the fault
-    // of a part, and is returned only if all relocations of the record are valid.
+    // Checks that a relocation record may come here, then reads and checks its relocations, and stores their values. The outer
+    // error is a fault of the record itself, which takes precedence; the inner error is the first fault of a part.
     #[tactic(auto, using(m11_link_modules::proofs::Taking::taken_then, m11_link_modules::proofs::Taking::refused_first))]
     fn store_relocations(
         &mut self,
@@ -352,8 +352,8 @@ impl Emit {
         }
     }
 
-    // Reads, checks and stores the relocations of a record one by one, up to the first fault; after the fault of a part the
-    // remaining ones are still read. Returns the results of `store_relocations`.
+    // Reads the relocations of a record one by one, checks each and stores its value, up to the first fault. After the fault of a
+    // part the remaining relocations are still read. The outer and the inner error are those of `store_relocations`.
     fn store_each_relocation(
         &mut self,
         unread: &mut UnreadRelocations<'_>,
@@ -394,7 +394,7 @@ impl Emit {
         Ok(())
     }
 
-    // The index of the current or next module, and the section that texts go to there.
+    // Returns the index of the current or next module, and the section that its texts go to.
     fn location(&self) -> ModuleSection
         ensures { result ≡ record { module_index = self.now.known.modules; section = self.now.known.section } }
     {
@@ -446,8 +446,8 @@ impl Emit {
         self.reporter.end_text(tape)
     }
 
-    // Writes the text that was pending, if there was one, and before it the front if it wasn't written yet. Makes the text at this
-    // location pending.
+    // Writes the text that was pending, if there was one, and before it the front if it wasn't written yet. Then makes this text
+    // pending.
     fn write_text<S: Sink, T: Sink, U: Sink>(
         &mut self,
         location: ModuleSection,

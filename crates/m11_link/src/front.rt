@@ -36,7 +36,8 @@ pub(crate) fn put_front<T: Sink, U: Sink>(
     Ok(reported)
 }
 
-// The name of a referenced global if it is undefined and has this strength: strong if any of its references is, otherwise weak.
+// Returns the name of a referenced global if it is undefined and has this strength, otherwise None. `reference` is the name, and
+// whether any reference to it is strong.
 fn undefined(plan: &Plan, reference: (Name, bool), is_strong: bool) -> Option<Name>
     ensures { result ≡ undefined_by (planned plan.now) is_strong reference }
 {
@@ -247,7 +248,7 @@ fn put_if_of_strength<T: Sink>(
     }
 }
 
-// Writes the last lines: the transfer address, or 1 without an even one, and the limits of the relocatable sections.
+// Writes the last lines: the transfer address, or 1 if no module has an even one, and the limits of the relocatable sections.
 fn put_last_lines<T: Sink>(plan: &Plan, map: &mut Option<T>) -> Result<(), LinkFault>
     ensures writes { (tape messages : OutputState) → Writes
         (outputs tape (optional_output T.Sink map.old) messages)

@@ -24,7 +24,7 @@ pub(crate) struct ModuleSection {
     pub(crate) section: Name,
 }
 
-/// A text of at most 512 bytes at its address, with the index of its module and the base of the module's contribution to its
+/// A text of at most 512 bytes at its address, with the index of its module and the base of the module's contribution to the text's
 /// section.
 #[derive(Drop)]
 pub(crate) struct HeldText {

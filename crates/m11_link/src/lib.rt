@@ -1,11 +1,11 @@
-//! The linker: from objects it makes an absolute loader tape, a map and messages. (RT-11 Volume and File Formats Manual, "Object
+//! The linker: it makes an absolute loader tape, a map and messages from objects. (RT-11 Volume and File Formats Manual, "Object
 //! file format" and "Absolute binary file format".)
 #![tactic(auto)]
 
 // The front, written before the tape: the messages about undefined globals, and the map.
 mod front;
 
-// What records add after the front: messages, and texts as blocks of the tape.
+// The output for records, after the front: messages, and texts as blocks of the tape.
 mod held;
 mod reporting;
 

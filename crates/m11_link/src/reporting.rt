@@ -1,4 +1,4 @@
-//! What records add after the front: messages about entries, and texts as blocks of the tape.
+//! The output for records, after the front: messages about entries, and texts as blocks of the tape.
 
 ghost use Rattle.std.specs.Prelude.{◌≡◌, ◌≢◌, ◌≤◌, [], ◌∷◌, length, Some, None, is_some, IfErr};
 ghost use Rattle.m11_obj_blocks.specs.Frames.{content_limit};
@@ -135,8 +135,8 @@ impl Reporter {
         Ok(())
     }
 
-    /// Writes the pending text, if there is one, as a block of the tape. None is pending afterwards. Errors: `Write`, if the tape
-    /// failed; `NoMemory`, if memory is refused for the block.
+    /// Writes the pending text, if there is one, as a block of the tape. No text is pending afterwards. Errors: `Write`, if the
+    /// tape failed; `NoMemory`, if memory is refused for the block.
     pub(crate) fn end_text<S: Sink>(&mut self, tape: &mut S) -> Result<(), LinkFault>
         ensures { (map messages : OutputState) → Goes
             (outputs (output_of S.Sink tape.old) map messages)
@@ -217,7 +217,7 @@ impl Reporter {
         Ok(())
     }
 
-    // Writes the messages about an entry. Only sections and globals can conflict with other modules.
+    // Writes the message about an entry, if it has one. Only an entry of a section or of a global can conflict with an earlier one.
     fn report_entry<U: Sink>(
         &mut self,
         module_index: usize,
@@ -241,7 +241,7 @@ impl Reporter {
         }
     }
 
-    // Reports a section whose attributes differ from those of its first entry.
+    // Reports a section's entry if its attributes differ from those of the section's first entry.
     fn report_section<U: Sink>(
         &mut self,
         module_index: usize,
@@ -266,7 +266,7 @@ impl Reporter {
         }
     }
 
-    // Reports a section entered with these attributes, if those of its first entry differ.
+    // Reports an entry of the named section with these attributes, if the section's first entry has others.
     fn report_section_with<U: Sink>(
         &mut self,
         module_index: usize,
@@ -288,7 +288,7 @@ impl Reporter {
         self.report(messages, &line)
     }
 
-    // Whether these are the attributes of the section's first entry. True if the first pass found no entry.
+    // Whether these are the attributes of the section's first entry. True if the first pass found no entry of the section.
     fn has_first_attributes(&self, name: Name, attributes: SectionFlags) -> bool
         ensures { result ≡ attributes_agree ((planned self.now.plan).attributes name) attributes.0 }
     {
@@ -305,7 +305,8 @@ impl Reporter {
         self.plan.module_name(module_index)
     }
 
-    // Stores the name of a global that an entry defines, or reports it if it is already defined. A reference has no message.
+    // Stores the name of a global that an entry defines, or reports the entry if the global is already defined. A reference has no
+    // message.
     fn report_symbol<U: Sink>(
         &mut self,
         module_index: usize,

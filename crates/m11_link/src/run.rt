@@ -22,14 +22,14 @@ use std::alloc::Global;
 
 /// Links objects, each read twice, into an absolute loader tape, a map and messages.
 ///
-/// `first` and `second` are feeds of the same objects for the two passes; only the second pass writes. Relocatable sections lie
-/// from `bottom` on. If a map is asked for, `map` still has its output afterwards, however the run ends.
+/// `first` and `second` are feeds of the same objects for the two passes; only the second pass writes. Relocatable sections begin
+/// at the address `bottom`. The map is written only if `map` is `Some`; it is still `Some` afterwards, however the run ends.
 ///
-/// Errors of the first pass, the first in the order of the input: `Read`; `Block`, `TooMuch` and `Record`; those of the rules of
-/// modules; `TooLarge` after the last block. They leave the outputs unchanged. Errors of the second pass: `Write`, after which
-/// nothing more is written; `Read`; and those of blocks, records and modules, if the second pass reads other bytes than the first.
-/// All output for the records before such a fault is written, except a text that hasn't ended. `NoMemory`, in both passes, if
-/// memory is refused.
+/// Errors of the first pass, of which the first in the order of the input is returned: `Read`; `Block`, `TooMuch` and `Record`;
+/// those of the rules of modules; `TooLarge` after the last block. They leave the outputs unchanged. Errors of the second pass:
+/// `Write`, after which nothing more is written; `Read`; and those of blocks, records and modules, if the second pass reads other
+/// bytes than the first. All output for the records before such a fault is written, except a text that hasn't ended. `NoMemory`, in
+/// both passes, if memory is refused.
 ///
 /// An output may hold bytes back until it is flushed. Tape and map are flushed after everything is written: after a successful
 /// link they hold nothing back, and a failed flush is a `Write` error of its output.
@@ -89,7 +89,7 @@ pub fn link_run_with_seed<F: Feed, S: Sink, T: Sink, U: Sink>(
     read_second(alloc, second, plan, tape, map, messages)
 }
 
-/// Any bytes of objects yield exactly one list of items.
+/// Any list of objects, whatever their bytes are, yields exactly one list of items.
 #[tactic(auto, using(crate::proofs::Steady::objects_come, crate::proofs::Sole::objects_same))]
 pub fn objects_yield_items()
     ensures yields { (sources : List (List ℕ)) → (items : List Item) × AreItems sources items }
@@ -190,7 +190,7 @@ fn emit_all<F: Feed, S: Sink, T: Sink, U: Sink>(
     Ok(())
 }
 
-// Reads one object in the second pass. All output for a block is written before the next one is read.
+// Reads one object in the second pass. All output for a block, except a text that hasn't ended, is written before the next block is read.
 fn emit_object<F: Feed, S: Sink, T: Sink, U: Sink>(
     feed: &mut F,
     emit: &mut Emit,

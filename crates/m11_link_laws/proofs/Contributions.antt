@@ -50,7 +50,7 @@ head_size first total rest e = omega arith
 same_some : (a b : ℕ) → Some a ≡ Some b → a ≡ b
 same_some a b e = cc
 
--- a size that is found is part of the sum
+-- a size that is found under a name is at most the sum of the rounded sizes under this name
 sizes_found : (name : Name) (reported : List (Name × ℕ)) (size : ℕ) → lookup (is_same_name name) reported ≡ Some size
     → size ≤ rounded_sum (filter_map (size_under name) reported)
 sizes_found name [] size e = absurd cc
@@ -66,7 +66,7 @@ sizes_found name (first ∷ reported) size e = by (is_same_name name first.0) e 
         (head_size first.1 (rounded_sum (first.1 ∷ rest)) (rounded_sum rest) (sum_more (first.1 ∷ []) rest))
     by false e h = h e
 
--- and at most the greatest
+-- a size that is found under a name is at most the greatest of the rounded sizes under this name
 greatest_found : (name : Name) (reported : List (Name × ℕ)) (size : ℕ) → lookup (is_same_name name) reported ≡ Some size
     → size ≤ greatest (map rounded (filter_map (size_under name) reported))
 greatest_found name [] size e = absurd cc
@@ -114,7 +114,8 @@ sum_step before part index name =
     ap rounded_sum (earlier_sizes_more before part index name)
     ∙ sum_more (sizes_of (modules_before before index) name) (reported_by (nat_lt (modules_in before) index) part name)
 
--- the contributions that a module enters come after those of earlier modules, and before those of later ones
+-- the sum of the sizes before a module, plus the module's own size if it enters the section, is at most the sum before a later
+-- module
 abbrev Follow : List Part → Type 0
 Follow parts = (sooner later : ℕ) (name : Name) → sooner < later
     → (earlier_sum parts sooner name ≤ earlier_sum parts later name)
@@ -139,7 +140,7 @@ added_old a b c d a' b' size h k e f = omega arith
 added_new : (a b c d a' b' size : ℕ) → a ≤ b → c + size ≤ d → a' ≡ a + c → b' ≡ b + d → a' + size ≤ b'
 added_new a b c d a' b' size h k e f = omega arith
 
--- a section that this part enters
+-- if this part enters a section in the earlier module, its size counts for the later one and not for the earlier one
 entered_here : (here sooner later : Bool) (part : Part) (name : Name) (size : ℕ) → (here ≡ true → sooner ≡ false)
     → (here ≡ true → later ≡ true) → lookup (is_same_name name) (reported_where here part) ≡ Some size
     → rounded_sum (reported_by sooner part name) + size ≤ rounded_sum (reported_by later part name)
@@ -153,7 +154,7 @@ entered_here true false true part name size h k e =
     from_nothing : (a b : ℕ) → a ≤ b → 0 + a ≤ b
     from_nothing a b h = omega arith
 
--- a section that the module entered before, or that this part enters
+-- the earlier module's size comes before the later module, whether the module entered the section before or by this part
 entered_by : (before : List Part) (part : Part) (sooner later : ℕ) (name : Name) (size : ℕ) (found : Option ℕ)
     → Follow before → sooner < later → entered_at before sooner name ≡ found
     → option_or found (lookup (is_same_name name) (reported_where (nat_eq (modules_in before) sooner) part)) ≡ Some size
@@ -312,7 +313,7 @@ after_all index modules = omega arith
 sooner_than : (index modules : ℕ) → index < index + (modules + 1)
 sooner_than index modules = omega arith
 
--- a contribution and those before it are part of the section
+-- a contribution and the earlier ones together are at most the sum of all contributions to the section
 sum_within : (parts : List Part) (index : ℕ) (name : Name) (size : ℕ) → entered_at parts index name ≡ Some size
     → earlier_sum parts index name + size ≤ rounded_sum (sizes_of parts name)
 sum_within parts index name size e =
@@ -328,7 +329,7 @@ both_true false c e f = absurd (true≢false (sym e))
 below : (base size : ℕ) → nat_lt 57344 (base + size) ≡ false → base + size ≤ 57344
 below base size e = grind (arith, nat_tests)
 
--- a relocatable section ends at or below octal 160000
+-- if nothing is too large, a relocatable section ends at octal 160000 or below
 pub ends_low : (bottom : ℕ) (parts : List Part) (name : Name) → is_too_large bottom parts ≡ false
     → is_relocatable (first_attributes parts name) ≡ true → list_any (is_same_name name) (section_names parts) ≡ true
     → section_base bottom parts name + section_size parts name ≤ 57344
@@ -357,7 +358,7 @@ greatest_by_flags true true a b c e f = refl
 greatest_by_flags true false a b c e f = absurd (true≢false (sym f))
 greatest_by_flags false o a b c e f = absurd (true≢false (sym e))
 
--- a base that doesn't wrap around
+-- if the base of a contribution is octal 160000 or below, it doesn't wrap around
 base_reported : (bottom : ℕ) (parts : List Part) (index : ℕ) (name : Name) (size offset : ℕ)
     → entered_at parts index name ≡ Some size
     → offset_after (first_attributes parts name) (sizes_of (modules_before parts index) name) ≡ offset

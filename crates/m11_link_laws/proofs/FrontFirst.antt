@@ -35,7 +35,7 @@ module _ {X : Type 0} where
     fewer true x xs ys h = omega arith
     fewer false x xs ys h = h
 
-    -- a beginning in which the test holds more often than in the front includes the front
+    -- a beginning of a list includes the front if the test is true more often in the beginning than in the front
     past_front : (front following done more : List X) → done ++ more ≡ front ++ following
         → length (filter test front) < length (filter test done) → (rest : List X) × (done ≡ front ++ rest)
     past_front [] following done more e h = (done, refl)
@@ -62,7 +62,7 @@ module _ {X : Type 0} where
     some_pass [] e = absurd (true≢false (sym e))
     some_pass (x ∷ xs) e = some_first (test x) (list_any test xs) x (filter test xs) (some_pass xs) e
 
-  -- a beginning of a list without its last item is a beginning of the other items
+  -- a beginning of a list that lacks an item is a beginning of the list without its last item
   lacks_last : (front : List X) (last : X) (done : List X) (next : X) (more : List X)
       → done ++ (next ∷ more) ≡ front ++ last ∷ [] → (rest : List X) × (front ≡ done ++ rest)
   lacks_last front last [] next more e = (front, refl)
@@ -160,7 +160,7 @@ front_messages found =
 
 -- ---- the laws
 
--- the writes after the front
+-- the writes of a link are the front, and then those of the parts and of the transfer block
 following : (found : Findings) (parts : List Part) (done more : List Write) → done ++ more ≡ link_writes found parts
     → done ++ more ≡ front_writes found ++ (parts_writes found parts ++ to_product (tape_block found.transfer []) ∷ [])
 following found parts done more e =

@@ -16,7 +16,7 @@ use Rattle.m11_link_laws.proofs.JoiningItems.{IsWhole, blocks, files_alike, file
 
 -- ---- bytes after others
 
--- bytes that end between blocks are skipped
+-- after bytes that end between blocks, the first block is that of the following bytes
 skipped : (bytes following : List ℕ) → first_block bytes ≡ Err Between → first_block (bytes ++ following) ≡ first_block following
 skipped [] following e = refl
 skipped (byte ∷ bytes) following e =
@@ -35,7 +35,7 @@ same_read : (contents : List (List ℕ)) (bytes others : List ℕ) → first_blo
 same_read [] bytes others same h = same ∙ h
 same_read (content ∷ contents) bytes others same h = (h.0, same ∙ h.1, h.2)
 
--- the blocks of bytes, and of the bytes after them
+-- two lists of bytes, one after the other, are read as the blocks of the first and then those of the second
 read_then : (contents more : List (List ℕ)) (bytes following : List ℕ) → AreRead contents bytes → AreRead more following
     → AreRead (contents ++ more) (bytes ++ following)
 read_then [] more bytes following h k = same_read more following (bytes ++ following) (skipped bytes following h) k
@@ -47,7 +47,7 @@ read_then (content ∷ contents) more bytes following h k = (
 
 -- ---- blocks as items
 
--- the items of blocks, all within the limit
+-- bytes within the limit yield the items of their blocks, and then the end of the object
 within_items : (contents : List (List ℕ)) (room : ℕ) (bytes : List ℕ) → AreRead contents bytes → length bytes ≤ room
     → ObjectItems room bytes (blocks contents ++ ObjectEnds ∷ [])
 within_items [] room bytes h le = objects.ObjectItems.Ends h le
@@ -115,7 +115,7 @@ files_of (source ∷ sources) h =
       joined = read_then f.contents (all_contents more.files) source (concat sources) f.read more.joined;
     }
 
--- the items of the one file of all bytes
+-- the file of all bytes, if it is within the limit, yields the items of all blocks, and one end
 joined_are : (sources : List (List ℕ)) (f : Files sources) → length (concat sources) ≤ most_bytes
     → AreItems (concat sources ∷ []) (joined_items f.files)
 joined_are sources f le =
@@ -123,7 +123,8 @@ joined_are sources f le =
     subst P (append-nil (blocks (all_contents f.files) ++ ObjectEnds ∷ []) ∙ joined_blocks f.files)
     (objects.Object (within_items (all_contents f.files) most_bytes (concat sources) f.joined le) objects.Nothing)
 
--- a link of files that each consist of whole modules is the link of one file with all their bytes
+-- if each file consists of whole modules, and all bytes together are within the limit, a link of the files has the same result as a
+-- link of one file with all their bytes
 pub joined_alike : (bottom : ℕ) (sources : List (List ℕ)) (items joined : List Item)
     → AllByRecursion AreModules sources → length (concat sources) ≤ most_bytes
     → AreItems sources items → AreItems (concat sources ∷ []) joined

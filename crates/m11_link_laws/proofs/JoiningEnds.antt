@@ -23,13 +23,13 @@ without_ends parts = filter_map kept parts
 pub without_append : (xs ys : List Part) → without_ends (xs ++ ys) ≡ without_ends xs ++ without_ends ys
 without_append xs ys = filter_map-append kept xs ys
 
--- one more part, which is left out if it is the end of a file, and otherwise stays
+-- a further end of a file is left out
 pub end_left : (before : List Part) → without_ends (before ++ EndOfFile ∷ []) ≡ without_ends before
 end_left before = without_append before (EndOfFile ∷ []) ∙ append-nil (without_ends before)
 
 -- ---- part by part
 
--- a function of single parts for which the end of a file counts for nothing
+-- a function of single parts that yields nothing for the end of a file yields the same without the ends of files
 pub reported_same : {X : Type 0} (report : Part → Option X) → report EndOfFile ≡ None → (parts : List Part)
     → filter_map report (without_ends parts) ≡ filter_map report parts
 reported_same report e [] = refl

@@ -17,9 +17,9 @@ use Rattle.m11_link_text.specs.Findings.{findings_of}
 use Rattle.m11_link.specs.Written.{defined_names}
 use Rattle.m11_link_laws.proofs.JoiningEnds.{end_left, entered_same, kept, module_same, modules_same, section_names_same, sections_same, reported_same, without_append, without_ends}
 
--- ---- functions of a part and those before it
+-- ---- functions of a part and the parts before it
 
--- a function of a part and those before it, for which ends of files count for nothing
+-- a function of a part and the parts before it yields nothing for the end of a file, and ignores ends of files before the part
 record Reporting {X : Type 0} (report : List Part → Part → Option X) : Type 0 where
   pub ends : (before : List Part) → report before EndOfFile ≡ None
   pub same : (before : List Part) (part : Part) → report (without_ends before) part ≡ report before part

@@ -114,7 +114,7 @@ taken_in_order items parts e =
 
 -- ---- the same items after parts that differ only in the ends of files
 
--- parts that differ only in the ends of files, or the same fault
+-- two results are parts that differ only in the ends of files, or the same fault
 abbrev pub Same : PartsOrFault → PartsOrFault → Type 0
 Same (Ok parts) (Ok others) = without_ends parts ≡ without_ends others
 Same (Err stopped) (Err other) = stopped ≡ other
@@ -178,12 +178,12 @@ abbrev pub files_items : List (List (List ℕ)) → List Item
 files_items [] = []
 files_items (contents ∷ files) = blocks contents ++ ObjectEnds ∷ files_items files
 
--- those of one file that holds them all
+-- the items of one file that holds the blocks of all these files
 abbrev pub joined_items : List (List (List ℕ)) → List Item
 joined_items [] = ObjectEnds ∷ []
 joined_items (contents ∷ files) = blocks contents ++ joined_items files
 
--- a file that consists of whole modules
+-- a file with blocks of these contents consists of whole modules
 abbrev pub IsWhole : List (List ℕ) → Type 0
 IsWhole contents = (parts : List Part) × (taken [] (blocks contents ++ ObjectEnds ∷ []) ≡ Ok parts)
 
@@ -191,7 +191,7 @@ end_between : (stage : Stage) → may_stand EndOfFile stage ≡ true → stage �
 end_between Between h = refl
 end_between stage h = absurd (false≢true h)
 
--- after whole modules no module is open
+-- if a file consists of whole modules, and no module is open before it, none is open after its blocks
 closes : (contents : List (List ℕ)) → IsWhole contents → (before parts : List Part)
     → stage_from Between before ≡ Between → taken before (blocks contents) ≡ Ok parts
     → stage_from Between parts ≡ Between
@@ -261,7 +261,7 @@ files_taken (contents ∷ files) h before other s same =
     (taken before (blocks contents)) (taken other (blocks contents)) refl refl
     (taken_same (blocks contents) before other same)
 
--- ---- the results of their links
+-- ---- the results of the links
 
 module _ (bottom : ℕ) where
   by_size : (large : Bool) (parts others : List Part)

@@ -17,7 +17,7 @@ use Rattle.m11_link_laws.proofs.JoiningFindings.{defined_same, findings_same}
 
 -- ---- the order of records
 
--- parts that are in order from this stage on
+-- each of these parts may come where it does, if the first one comes at this stage
 abbrev pub InOrder : Stage → List Part → Type 0
 InOrder stage [] = Unit {0}
 InOrder stage (part ∷ parts) = (may_stand part stage ≡ true) × InOrder (stage_from stage (part ∷ [])) parts
@@ -27,7 +27,7 @@ text_in_body : (stage : Stage) (address : ℕ) (bytes : List ℕ) → may_stand 
 text_in_body InBody address bytes h = refl
 text_in_body stage address bytes h = absurd (false≢true h)
 
--- ---- texts, after which no file ends in their module
+-- ---- after a text no file ends within its module
 
 ended_same : (parts : List Part) → InOrder InBody parts → has_ended (without_ends parts) ≡ has_ended parts
 ended_same [] h = refl
@@ -107,7 +107,7 @@ link_written found parts h = ap (λ ws. (front_writes found ++ ws) ++ to_product
 
 -- ---- a whole link
 
--- parts in order have the same writes without the ends of files
+-- if parts are in order, a link of them makes the same writes without the ends of files
 all_written : (bottom : ℕ) (parts : List Part) → InOrder Between parts
     → link_writes (findings_of bottom (without_ends parts)) (without_ends parts)
     ≡ link_writes (findings_of bottom parts) parts
@@ -115,7 +115,7 @@ all_written bottom parts h =
     ap (λ found. link_writes found (without_ends parts)) (findings_same bottom parts)
     ∙ link_written (findings_of bottom parts) parts h
 
--- parts that differ only in the ends of files have the same writes
+-- if parts in order differ only in the ends of files, links of them make the same writes
 pub written_alike : (bottom : ℕ) (parts others : List Part) → InOrder Between parts → InOrder Between others
     → without_ends parts ≡ without_ends others
     → link_writes (findings_of bottom parts) parts ≡ link_writes (findings_of bottom others) others

@@ -142,7 +142,7 @@ front_of_map found =
     then_made Report _ _ [] _
     (each_skipped Report undefined_write (λ x. refl) (undefined_names found true found.references)) (map_made found)
 
--- the map writes no message
+-- the writes to the map add no line to the messages
 sections_silent : (found : Findings) → Makes Messages (section_writes found.sections) []
 unfolding section_writes
 sections_silent found = each_skipped Messages section_write (λ x. refl) found.sections
@@ -180,7 +180,7 @@ front_of_messages found =
 
 -- ---- the writes of the parts
 
--- a write to the tape adds no line
+-- a write to the tape adds no line to another output
 module _ (output : Output) (apart : is_output output Product ≡ false) where
   block_skipped : (address : ℕ) (bytes : List ℕ) → Makes output (block_at address bytes) []
   block_skipped address [] = none_made output
@@ -199,7 +199,7 @@ module _ (output : Output) (apart : is_output output Product ≡ false) where
       either true whole = block_skipped whole.address whole.bytes
       either false whole = none_made output
 
--- no line is added to the map
+-- the message about an entry, if there is one, adds no line to the map
 unless_silent : (b : Bool) (bytes : List ℕ) → Makes Report (if b then [] else to_messages bytes ∷ []) []
 unless_silent true bytes = none_made Report
 unless_silent false bytes = skipped Report _ _ _ refl (none_made Report)
@@ -234,7 +234,7 @@ parts_of_map found before (Text address bytes ∷ parts) =
     (parts_of_map found (before ++ Text address bytes ∷ []) parts)
 parts_of_map found before (part ∷ parts) = parts_of_map found (before ++ part ∷ []) parts
 
--- only the messages of entries are added to the messages
+-- the message about an entry, if there is one, as a list of lines
 abbrev lines_of : Option (List ℕ) → List (List ℕ)
 lines_of None = []
 lines_of (Some line) = line ∷ []

@@ -35,7 +35,7 @@ module _ (lies : Name → Bool) (size : Name → ℕ) (bottom : ℕ) (all : List
   abbrev end : List Name → ℕ
   end done = bottom + sum_by room done
 
-  -- the next section, if it is relocatable
+  -- spans that lie in order after a section also do with the section's span before them, or without it if the section isn't relocatable
   next_lies : (b : Bool) (from at size : ℕ) (spans : List Span) (last : ℕ) → at ≡ from
       → LieInOrder (from + (if b then size else 0)) spans last
       → LieInOrder from (cond b (record { base = (if b then at else 0); size = size } ∷ spans) spans) last
@@ -78,7 +78,7 @@ sections_lie bottom parts =
     subst P (nothing_more bottom)
     (lie_after (lies_from_bottom parts) (section_size parts) bottom all [] all refl (apart_distinct _))
 
--- ---- two of them
+-- ---- two sections
 
 taken_apart : (bottom : ℕ) (span : Span) (spans : List Span) (last : ℕ) → LieInOrder bottom (span ∷ spans) last
     → (bottom ≡ span.base) × LieInOrder (bottom + span.size) spans last

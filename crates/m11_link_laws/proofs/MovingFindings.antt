@@ -101,7 +101,7 @@ pub value_is : (bottom distance : ℕ) (parts : List Part) (name : ℕ × ℕ)
 unfolding global_value global_moves
 value_is bottom distance parts name = defined_is bottom distance parts (first_definition parts name)
 
--- a global that is defined nowhere is 0 with both bottoms
+-- the value of a global, or 0 if it is defined nowhere, moves as its definition does
 symbol_by : (bottom distance : ℕ) (parts : List Part) (found : Option Definition)
     → unwrap_or (option_map (definition_value (bottom + distance) parts) found) 0
     ≡ moved distance (definition_moves parts found) (unwrap_or (option_map (definition_value bottom parts) found) 0)
@@ -126,7 +126,7 @@ global_by bottom distance parts name (Some definition) =
     record (global_reported bottom parts name definition) { value = value } in reported))
     (location_is bottom distance parts definition.module_index definition.location)
 
--- the entry of a global in the list has its name
+-- a global in the list moves as the name does under which it was found, since it has this name
 named_by : (bottom distance : ℕ) (parts : List Part) (name : ℕ × ℕ) (found : Option Definition)
     → option_map (λ global. let reported : PlannedGlobal = record global {
       value = moved distance (global_moves parts name) global.value;
@@ -211,7 +211,7 @@ find_mapped {X} {Y} p f (x ∷ xs) = by (p (f x)) (f x) x _ _ (find_mapped p f x
     by true y x more rest e h = ap (λ z. Some z) (sym h)
     by false y x more rest e h = e
 
--- the address is the value of the entry that counts
+-- the transfer address is the value of the entry that counts, or 1 if there is none
 pub address_is : (bottom : ℕ) (parts : List Part)
     → transfer_address bottom parts
     ≡ unwrap_or (option_map (transfer_value bottom parts) (counting_transfer bottom parts)) 1

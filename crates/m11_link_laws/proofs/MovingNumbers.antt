@@ -1,4 +1,4 @@
--- Sums and differences modulo 200000 and 400 to which a distance is added.
+-- Sums and differences modulo octal 200000 and octal 400, to which a distance is added.
 use Rattle.std.proofs.Common.{◌≡◌, ℕ, ◌+◌, ◌-◌, ◌%◌, Bool, true, false, refl, arith}
 use Rattle.m11_link_text.specs.Relocation.{following, less, modulo}
 use Rattle.m11_link_laws.specs.Moving.{farther, moved, number_moved}

@@ -81,7 +81,7 @@ module _ (distance : ℕ) (parts : List Part) (near : Findings) where
   bytes_length index own location does_move is_byte (target.SectionAdditiveDisplaced name constant) =
       stored_length is_byte _ _
 
-  -- a text whose bytes are replaced by as many others still has as many after relocations
+  -- texts with the same number of bytes still have the same number after a relocation
 
   pub relocation_length : (does_move : Bool) (text : PlacedText) (bytes : List ℕ) (relocation : Relocation)
       → length text.bytes ≡ length bytes

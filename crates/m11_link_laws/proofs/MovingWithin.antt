@@ -1,4 +1,4 @@
--- If the link from the higher bottom isn't too large, no base wraps around.
+-- If the link with the higher bottom isn't too large, no base wraps around.
 use Rattle.std.proofs.Common.{◌≡◌, ℕ, ◌+◌, ◌%◌, ◌≤◌, sum, Bool, true, false, ◌&&◌, ◌||◌, not, nat_eq, nat_lt, if◌then◌else◌, List, [], ◌∷◌, ◌++◌, map, is_some, Option, Some, None, refl, sym, ap, ap₂, ◌∙◌, subst, true≢false, arith}
 use Rattle.std.specs.List.{filter_map, list_any}
 use Rattle.std.specs.Map.{keys_of, lookup}
@@ -78,7 +78,7 @@ distinct_comes name seen (other ∷ names) e =
     by true f e rest = distinct_keeps name (insert_key is_same_name seen other) names (inserted_comes name seen other f)
     by false f e rest = rest e
 
--- a section that no part enters is entered by no module
+-- if a look-up with an alternative finds nothing, the look-up by itself finds nothing
 none_left : (first rest : Option ℕ) → option_or first rest ≡ None → first ≡ None
 none_left None rest e = refl
 none_left (Some x) rest e = search
@@ -168,7 +168,7 @@ earlier_none index name = omega arith
 earlier_within : (parts : List Part) → Earlier parts
 earlier_within parts = grown Earlier earlier_more parts earlier_none
 
--- ---- no base is above the devices
+-- ---- no base is above octal 160000
 
 low_base : (overlaid : Bool) (base : ℕ) (earlier sizes : List ℕ) → rounded_sum earlier ≤ rounded_sum sizes
     → nat_lt 57344 (base + (if overlaid then greatest (map rounded sizes) else rounded_sum sizes)) ≡ false
@@ -191,7 +191,8 @@ nearer base distance offset h = omega arith
 past : (base distance offset : ℕ) → base + distance + offset ≡ base + offset + distance
 past base distance offset = omega arith
 
--- both bases without a modulus, by the size of the module's contribution, if it has one
+-- if the section of a contribution doesn't end too high, the contribution's base moves by exactly the distance if the section is
+-- relocatable, and otherwise stays; without a contribution the base is 0
 plain_by : (entered : Option ℕ) (b overlaid : Bool) (distance near far : ℕ) (earlier sizes : List ℕ)
     → far ≡ farther distance b near
     → rounded_sum earlier ≤ rounded_sum sizes

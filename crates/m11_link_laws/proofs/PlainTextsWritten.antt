@@ -169,7 +169,7 @@ at_end Between fault e = refl
 at_end InDirectory fault e = absurd cc
 at_end InBody fault e = absurd cc
 
--- a module that has ended has ended its texts
+-- if parts lead from the body of a module to its end, they end a text before them
 pub ended : (parts : List Part) → stage_from InBody parts ≡ Between → has_ended parts ≡ true
 ended [] e = absurd cc
 ended (Relocations ∷ parts) e = ended parts e
@@ -183,7 +183,7 @@ stage_moves stage EndOfDirectory parts = refl
 stage_moves stage EndOfModule parts = refl
 stage_moves stage part parts = refl
 
--- the stage after one more part
+-- the stage after further parts is found from the stage after the first of them
 pub one_more : (before : List Part) (part : Part) (parts : List Part)
     → stage_from (stage_after (before ++ part ∷ [])) parts ≡ stage_from (stage_after before) (part ∷ parts)
 unfolding stage_after
@@ -206,11 +206,11 @@ text_gained found text parts n e =
     ∙ ap (λ t. gained link Product (text_writes t)) (unchanged found text parts n)
     ∙ block_gained text.address text.bytes
 
--- a part that writes nothing to the tape, before parts whose tape is known
+-- writes elsewhere add nothing to the tape before other writes
 pub skipped : (xs ys : List Write) (bytes : List ℕ) → Elsewhere xs → gained link Product ys ≡ bytes → gained link Product (xs ++ ys) ≡ bytes
 skipped xs ys bytes e f = gained-append link Product xs ys ∙ ap₂ (λ some more. some ++ more) e f
 
--- a text is in the body of a module
+-- a text without a fault comes in the body of a module
 pub text_in_body : (before : List Part) (address : ℕ) (bytes : List ℕ) → fault_of before (Text address bytes) ≡ None
     → stage_after before ≡ InBody
 unfolding fault_known known_of

@@ -83,7 +83,7 @@ stand text faults (old ∷ olds) (new ∷ news) (source ∷ sources) (first ∷ 
           ∙ ap (λ (xs : List (List ℕ)). first ∷ xs) more.split;
     }
 
--- these items are a beginning
+-- `some` is a beginning of `items`
 abbrev Front : List Item → List Item → Type 0
 Front items some = (more : List Item) × (items ≡ some ++ more)
 
@@ -170,7 +170,7 @@ module _ {F : Type 0} (text : F → Option Text) (faults : F → ℕ) (feeds fee
   abbrev Begun : Type 0
   Begun = LeavesBeginnings link old new (link_writes (planned plan) parts)
 
-  -- a feed failed
+  -- if a feed fails in the second pass, each output has a beginning of the writes of all parts
   pub read_begun : ReadsSecond (pass_of text faults feeds feeds') plan old new (Err fault.Read) → Begun
   read_begun h =
       let some : List Item = h.0 in
@@ -202,7 +202,7 @@ module _ {F : Type 0} (text : F → Option Text) (faults : F → ℕ) (feeds fee
       subst P here (flushed_beginnings link old new (link_writes (planned plan) h.parts) files stopped
       (are_stops (link_writes (planned plan) h.parts ++ flushes) h.stops))
 
-  -- an output failed, or memory was refused
+  -- if an output fails or memory is refused, each output has a beginning of the writes of all parts
   pub stop_begun : (stopped : LinkFault) (Stop : List Write → Type 0)
       → ((writes : List Write) → Stop writes → Stops old new writes stopped) → (others : List Item) → others ≡ items
       → StopsWithin Stop plan [] others ⊎ StopsLast Stop plan others → Begun

@@ -1,4 +1,4 @@
--- A run with known objects has the result that their outcome says.
+-- The outcome of known objects decides the result of a run.
 use Rattle.std.proofs.Common.{◌≡◌, ◌∙◌, ℕ, Bool, true, false, if◌then◌else◌, List, [], ◌∷◌, Option, Some, None, Result, Ok, Err, ◌⊎◌, inl, inr, refl, sym, ap, ap₂, subst}
 use Rattle.std.specs.Prelude.{⊤}
 use Rattle.m11_base.specs.Feed.{GiveAll, HasBytes, Text}

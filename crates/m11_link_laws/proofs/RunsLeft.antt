@@ -1,4 +1,4 @@
--- The outputs of a run with known objects that is Ok.
+-- The outputs of a successful run with known objects.
 use Rattle.std.proofs.Common.{◌≡◌, ◌∙◌, ℕ, List, Option, Ok, subst}
 use Rattle.std.specs.Io.KnownBytes.{Appends}
 use Rattle.m11_base.specs.Feed.{Text}

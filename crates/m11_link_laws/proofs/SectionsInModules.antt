@@ -21,7 +21,7 @@ use Rattle.m11_link_layout.proofs.TablesBounded.{in_all, no_less, tables_of, ent
 
 -- ---- entries come after the beginning of a directory record
 
--- these parts, from this stage on, have no entry between modules
+-- these parts, of which the first comes at this stage, have no entry between modules
 abbrev Filled : Stage → List Part → Type 0
 Filled stage [] = Unit {0}
 Filled stage (Directory ∷ parts) = Filled InDirectory parts
@@ -81,7 +81,8 @@ global_alone : (global : Option (ℕ × ℕ)) (known : RulesState) → ((with_op
 global_alone None known = (refl, refl)
 global_alone (Some name) known = (refl, refl)
 
--- one more part, and the parts after it
+-- if no entry comes between modules, no section is entered between modules after one more part, and the following parts still have
+-- no such entry
 entering_step : (known : RulesState) (part : Part) (parts : List Part) → Filled known.stage (part ∷ parts) → Entering known
     → Entering (known_after known part) × Filled (known_after known part).stage parts
 unfolding known_after
@@ -122,7 +123,7 @@ records_enter : (items : List Item) → first_fault [] (items_parts items) ≡ N
 records_enter items n =
     entering_after [] (items_parts items) n (items_filled items (known_of []).stage) entering_none
 
--- ---- so the limits bound the number of sections of all modules
+-- ---- the limits bound the number of section entries of all modules
 
 one_more : (m n : ℕ) → m < n → m + 1 ≤ n
 one_more m n h = omega (arith, h)
@@ -143,7 +144,8 @@ within_limits InBody modules names entered total l s h k b =
     no_less total ((modules + 1) * names) (most_modules * most_sections) (in_all total modules names entered h k)
     (mul-le-mul (one_more modules most_modules l) s)
 
--- the entries of sections in whole records and files
+-- whole records and files without a fault have at most the allowed number of modules times the allowed number of sections as
+-- entries of sections
 records_enter_few : (items : List Item) → first_fault [] (items_parts items) ≡ None
     → length (sections_in (items_parts items)) ≤ most_modules * most_sections
 unfolding known_of

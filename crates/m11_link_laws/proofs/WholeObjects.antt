@@ -62,7 +62,7 @@ nothing_sound = refl
 pub taken_sound : (items : List Item) (parts : List Part) → taken [] items ≡ Ok parts → first_fault [] parts ≡ None
 taken_sound items parts e = items_sound [] items parts nothing_sound e
 
--- ---- and they end between two modules
+-- ---- the parts end between modules
 
 pub taken_both : (before : List Part) (xs ys : List Item) (parts : List Part) → taken before (xs ++ ys) ≡ Ok parts
     → (middle : List Part) × (taken before xs ≡ Ok middle) × (taken middle ys ≡ Ok parts)

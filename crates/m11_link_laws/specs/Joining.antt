@@ -8,7 +8,7 @@ use Rattle.m11_link_text.specs.Findings.{findings_of}
 use Rattle.m11_link.specs.Objects.{Item, ObjectItems, taken}
 use Rattle.m11_link.specs.Written.{link_writes}
 
--- a file that by itself consists of whole modules: its items have no fault
+-- a file by itself consists of whole modules: its items have no fault
 abbrev pub AreModules : List ℕ → Type 0
 AreModules source = (items : List Item) × ObjectItems most_bytes source items
     × (parts : List Part) × (taken [] items ≡ Ok parts)

@@ -27,8 +27,8 @@ map_text bottom parts = concat (map_lines (findings_of bottom parts))
 abbrev pub messages_of : ℕ → List Part → List Bytes
 messages_of bottom parts = message_lines (findings_of bottom parts) parts
 
--- each output gains its text; the tape's text is a tape of the texts that have data, with the transfer address; tape and map hold
--- nothing back; the messages are counted
+-- the tape gains the bytes of `tape_text`, which form a tape with the blocks of the texts that have data and with the transfer address;
+-- the map and the messages gain their lines; tape and map hold nothing back; the messages are counted
 pub record Leaves (bottom : ℕ) (parts : List Part) (old new : Outputs) (done : LinkDone) : Type 0 where
   pub tape : Appends (old Product).text (new Product).text (tape_text bottom parts)
   pub again : IsTape (tape_blocks (findings_of bottom parts) parts) (transfer_address bottom parts) (tape_text bottom parts)

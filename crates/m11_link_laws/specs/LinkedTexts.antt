@@ -1,5 +1,5 @@
--- The tape of a link: each text, with the values that its relocations store, as one block. (RT-11 Volume and File Formats Manual, "Object
--- file format", TXT and RLD blocks; "Absolute binary file format".)
+-- The tape of a link: each text that has data, with the values that its relocations store, as one block. (RT-11 Volume and File Formats
+-- Manual, "Object file format", TXT and RLD blocks; "Absolute binary file format".)
 use Rattle.std.specs.Prelude.{ℕ, Bool, true, false, List, [], ◌∷◌, ◌++◌, map, Option, Some, None}
 use Rattle.std.specs.List.{cons_option, filter}
 use Rattle.m11_base.specs.Devices.{Bytes}
@@ -10,7 +10,7 @@ use Rattle.m11_link_modules.specs.Positions.{current_section, modules_in, this_m
 use Rattle.m11_link_text.specs.Findings.{Findings}
 use Rattle.m11_link.specs.Written.{PlacedText, placed_text, relocations_after, with_relocations}
 
--- a text as objects have it: the index of its module, the section that the module selected last, its address relative to the base
+-- a text as it is in an object: the index of its module, the section that the module selected last, its address relative to the base
 -- of the module's contribution to that section, its bytes, and the relocations between it and the next part that isn't of a
 -- relocation record
 pub record ObjectText : Type 0 where

@@ -1,8 +1,9 @@
--- The effects of a higher bottom of a link: relocatable sections, the limits, and everything that is counted from the contribution of
--- a module to a relocatable section move by the distance between the bottoms. A displacement from a location that moves to a target
--- that stays moves back by the distance. Nothing else changes, if the distance is even; with an odd one another transfer address may
--- count. (RT-11 Volume and File Formats Manual, "Object file format", GSD and RLD blocks. The distances are this project's own: they
--- apply to the results of Sections.antt, Globals.antt and Transfers.antt of the layout, and of Relocation.antt of m11_link_text.)
+-- The effects of a higher bottom on a link: relocatable sections, the limits, and everything that is counted from the contribution of a
+-- module to a relocatable section move by the distance between the bottoms. A displacement moves back by the distance if its location
+-- moves and its target stays. Nothing else changes if the distance is even; with an odd distance another transfer entry may be the first
+-- with an even address. (RT-11 Volume and File Formats Manual, "Object file format", GSD and RLD blocks. The distances are this
+-- project's own: they apply to the results of Sections.antt, Globals.antt and Transfers.antt of the layout, and of Relocation.antt of
+-- m11_link_text.)
 use Rattle.std.specs.Prelude.{◌≡◌, ℕ, ◌+◌, ◌-◌, ◌%◌, Bool, true, false, ◌&&◌, ◌||◌, not, nat_le, nat_lt, List, [], ◌∷◌, ◌++◌, length, map, option_map, is_some, Option, Some, None, if◌then◌else◌}
 use Rattle.std.specs.List.{find, list_all}
 use Rattle.std.specs.Map.{lookup}
@@ -36,8 +37,8 @@ use Rattle.m11_link.specs.Written.{PlacedText, has_ended, placed_text, relocatio
 abbrev pub section_moves : List Part → Name → Bool
 section_moves parts name = is_relocatable (first_attributes parts name)
 
--- whether the contribution that the module with this index makes to a section moves; false if the module has no entry for the
--- section, since the base is then 0
+-- whether a module's contribution to a section moves, given the module's index: the section moves, and the module has an entry for it;
+-- without an entry the base is 0
 abbrev pub moves : List Part → ℕ → Name → Bool
 moves parts index name =
     is_some (lookup (is_same_name name) (sections_in (module_at parts index))) && section_moves parts name
@@ -58,7 +59,7 @@ global_moves parts name = definition_moves parts (first_definition parts name)
 unfoldable pub counting_transfer : ℕ → List Part → Option Transfer
 counting_transfer bottom parts = find (λ transfer. is_even (transfer_value bottom parts transfer)) (transfers_of parts)
 
--- whether the transfer address moves: its entry names a contribution that moves; without an entry it doesn't
+-- whether the transfer address moves: its entry names a contribution that moves; without an entry the address doesn't move
 abbrev pub transfer_moves : List Part → Option Transfer → Bool
 transfer_moves parts None = false
 transfer_moves parts (Some transfer) = moves parts transfer.module_index transfer.section
@@ -89,16 +90,17 @@ is_displaced other = false
 
 -- ---- by how much something moves
 
--- the base of a section with the higher bottom, as the map shows it; it isn't taken modulo octal 200000
+-- the base of a section with the higher bottom, as the map shows it: higher by the distance if the section moves, and not taken modulo
+-- octal 200000
 abbrev pub farther : ℕ → Bool → ℕ → ℕ
 farther distance does_move base = if does_move then base + distance else base
 
--- an address with the higher bottom, modulo octal 200000
+-- an address with the higher bottom: higher by the distance, modulo octal 200000, if the address moves
 abbrev pub moved : ℕ → Bool → ℕ → ℕ
 moved distance does_move address = if does_move then modulo (address + distance) else address
 
--- a stored number, modulo `modulus`: plus the distance if only the target moves, minus the distance if only the location from which
--- the number is counted moves, and the same if both move or neither does
+-- a stored number with the higher bottom: higher by the distance if only the target moves, and lower by the distance if only the
+-- location from which the number is counted moves, both modulo `modulus`; unchanged if both move or neither does
 abbrev pub number_moved : ℕ → ℕ → Bool → Bool → ℕ → ℕ
 number_moved modulus distance true true number = number
 number_moved modulus distance true false number = (number + distance) % modulus
@@ -117,8 +119,8 @@ global_moved distance parts global = record global {
   value = moved distance (global_moves parts global.name) global.value;
 }
 
--- the findings of the same parts with two bottoms: names, sizes, attributes and references are the same; with an even distance odd
--- addresses stay odd, so the same transfer entry counts
+-- `near` and `far` are the findings of the same parts with two bottoms: names, sizes, attributes and references are the same; with an
+-- even distance odd addresses stay odd, so the same transfer entry counts
 pub record Moved (distance : ℕ) (parts : List Part) (near far : Findings) : Type 0 where
   pub base : (index : ℕ) (name : Name)
       → far.base index name ≡ moved distance (moves parts index name) (near.base index name)
@@ -133,7 +135,7 @@ pub record Moved (distance : ℕ) (parts : List Part) (near far : Findings) : Ty
   pub bottom : far.bottom ≡ near.bottom + distance
   pub top : far.top ≡ near.top + distance
 
--- the findings with a bottom that is higher by an even distance, made from those of the lower one
+-- the findings with a bottom that is higher by an even distance, made from the findings with the lower bottom
 abbrev pub findings_moved : ℕ → List Part → Findings → Findings
 findings_moved distance parts near = record {
   base = λ index name. moved distance (moves parts index name) (near.base index name);
@@ -156,8 +158,8 @@ text_moved distance does_move text = record text {
   address = moved distance does_move text.address;
 }
 
--- a position in a text: the index of its module, the base of the module's contribution to its section, the position's address, and
--- whether the text moves
+-- a position in a text: the index of its module, the base of the module's contribution to the text's section, the position's
+-- address, and whether the text moves
 pub record TextPosition : Type 0 where
   pub module_index : ℕ
   pub base : ℕ
@@ -183,7 +185,7 @@ bytes_moved distance parts near position is_byte (target.LocationCounterModifica
 bytes_moved distance parts near position is_byte other =
     value_bytes is_byte (value_moved distance parts near position other)
 
--- a text after a relocation has stored its bytes, with the higher bottom; one that doesn't lie within the text changes nothing
+-- a text after a relocation has stored its bytes, with the higher bottom; a relocation that doesn't lie within the text changes nothing
 abbrev pub relocation_moved : ℕ → List Part → Findings → Bool → PlacedText → Relocation → PlacedText
 relocation_moved distance parts near does_move text relocation =
     let index = relocation.displacement - 4 in
@@ -202,7 +204,7 @@ relocations_moved distance parts near does_move text (relocation ∷ relocations
 
 -- ---- the writes of parts
 
--- the write of a text that has ended, as a block at its moved address; none for a text that hasn't
+-- the write of a text that has ended, as a block, with the higher bottom; none for a text that hasn't ended or has no bytes
 abbrev pub ended_moved : ℕ → List Part → Findings → Bool → PlacedText → List Part → List Write
 ended_moved distance parts near does_move text following =
     if has_ended following
@@ -237,8 +239,8 @@ abbrev pub is_alike : Bool → Bool → Bool
 is_alike true other = other
 is_alike false other = not other
 
--- whether what a relocation with this target stores is the same with both bottoms: its target and the location from which the value is
--- counted both move, or neither does; false for the limits
+-- whether a relocation with this target stores the same bytes with both bottoms: the target and the location from which a displaced value
+-- is counted both move, or neither does; false for the limits
 abbrev pub target_stays : List Part → ℕ → Bool → Target → Bool
 target_stays parts index does_move named = not (stores_limits named)
     && is_alike (target_moves parts index does_move named) (is_displaced named && does_move)

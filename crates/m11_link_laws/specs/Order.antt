@@ -1,5 +1,5 @@
 -- What the laws about the order of a link's writes refer to: whether writes reach the tape, how many of them are messages, how many
--- messages are about undefined globals, and whether writes begin with given ones. (This project's own.)
+-- messages are about undefined globals, and whether some writes begin with others. (This project's own.)
 use Rattle.std.specs.Prelude.{◌≡◌, ℕ, Bool, true, false, List, ◌++◌, length}
 use Rattle.std.specs.List.{filter, list_any}
 use Rattle.m11_base_writes.specs.declared.outputs.Output.{Output}

@@ -10,22 +10,22 @@ use Rattle.m11_link.specs.Written.{counted, link_writes}
 use Rattle.m11_link.specs.declared.emit.LinkDone.{LinkDone}
 use Rattle.m11_base_writes.specs.Writes.{LeavesBeginnings}
 
--- the faults that may stop a link of objects without a fault
+-- the fault may stop a link even if the objects have no fault: it is `Read`, `Write` or `NoMemory`
 abbrev pub MayStop : LinkFault → Type 0
 MayStop fault.Read = ⊤
 MayStop (fault.Write output) = ⊤
 MayStop fault.NoMemory = ⊤
 MayStop stopped = ⊥
 
--- the run's fault is the one that refuses the objects, unless a read failed or memory was refused earlier
+-- the run's fault is the one with which the objects are refused, or it is `Read` or `NoMemory`
 abbrev pub IsRefusal : LinkFault → LinkFault → Type 0
 IsRefusal refused fault.Read = ⊤
 IsRefusal refused fault.NoMemory = ⊤
 IsRefusal refused stopped = stopped ≡ refused
 
--- with objects that yield parts: everything that the definitions say was written, tape and map hold nothing back, and the messages
--- are counted; or the run was stopped, and each output has a prefix of its text; with objects that are refused: the refusal,
--- `Read` or `NoMemory`, and nothing was written
+-- if the objects yield parts: exactly the writes of the definitions were made, tape and map hold nothing back, and the messages are
+-- counted; or `Read`, `Write` or `NoMemory` stopped the run, and each output gained a prefix of its bytes; if the objects are refused:
+-- the run's fault is their refusal, `Read` or `NoMemory`, and nothing was written
 abbrev pub IsDecided : ℕ → Result (List Part) LinkFault → Outputs → Outputs → Result LinkDone LinkFault → Type 0
 IsDecided bottom (Ok parts) old new (Ok done) = Gains old new (link_writes (findings_of bottom parts) parts)
     × (done.messages ≡ counted 0 (link_writes (findings_of bottom parts) parts)) × AreFlushed new

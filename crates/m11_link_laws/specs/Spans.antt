@@ -9,12 +9,13 @@ use Rattle.m11_link_modules.specs.Positions.{section_names, sections_in}
 use Rattle.m11_link_layout.specs.Modules.{module_at}
 use Rattle.m11_link_layout.specs.Sections.{first_attributes, is_relocatable, section_base, section_size}
 
--- `size` addresses from a base on
+-- `size` consecutive addresses, the first of which is the base
 pub record Span : Type 0 where
   pub base : ℕ
   pub size : ℕ
 
--- each of the spans begins where the one before it ends, the first one at the bottom, and the last one ends at the top
+-- each span begins where the one before it ends, the first one at the bottom, and the last one ends at the top; without spans, the top is
+-- the bottom
 pub data LieInOrder : ℕ → List Span → ℕ → Type 0 where
   Nothing : {bottom : ℕ} → LieInOrder bottom [] bottom
   Section : {base size top : ℕ} {spans : List Span} → LieInOrder (base + size) spans top

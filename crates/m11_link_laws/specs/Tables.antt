@@ -15,8 +15,8 @@ pub record ModulesKept (bottom : ℕ) (parts : List Part) : Type 0 where
   pub gathered : length (gathered_of bottom parts).names ≡ modules_in parts
   pub most : modules_in parts ≤ most_modules
 
--- the tables have each section once; the current module has entered no more sections than all modules together, and these are no
--- more than a link accepts
+-- the tables have each section once; the current module has entered no more sections than all modules together; and there are no more
+-- sections than a link accepts
 pub record SectionsKept (bottom : ℕ) (parts : List Part) : Type 0 where
   pub gathered : length (gathered_of bottom parts).sections ≡ length (section_names parts)
   pub known : length (known_of parts).sections ≡ length (section_names parts)
@@ -24,13 +24,14 @@ pub record SectionsKept (bottom : ℕ) (parts : List Part) : Type 0 where
   pub most : length (section_names parts) ≤ most_sections
 
 -- the tables have at most one contribution for each section entry; each module, including one that hasn't ended, has at most one entry for
--- each section; and modules and sections are no more than a link accepts
+-- each section; and the number of entries is at most the limit on sections times one more than the limit on modules
 pub record ContributionsKept (bottom : ℕ) (parts : List Part) : Type 0 where
   pub gathered : length (gathered_of bottom parts).contributions ≤ length (sections_in parts)
   pub entered : length (sections_in parts) ≤ (modules_in parts + 1) * length (section_names parts)
   pub most : length (sections_in parts) ≤ (most_modules + 1) * most_sections
 
--- the tables have each global at most once as defined, as referred to and as weak; the names are no more than a link accepts
+-- the tables have each global at most once as defined, as referred to and as weak; and there are no more names of globals than a link
+-- accepts
 pub record GlobalsKept (bottom : ℕ) (parts : List Part) : Type 0 where
   pub definitions : length (gathered_of bottom parts).definitions ≤ length (global_names parts)
   pub references : length (gathered_of bottom parts).references ≤ length (global_names parts)

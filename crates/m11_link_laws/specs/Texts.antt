@@ -22,8 +22,8 @@ abbrev pub stores : Part → Bool
 stores (Relocated relocation) = not (only_selects relocation.target)
 stores part = false
 
--- a text's address, counted from the base of its module's contribution to the section that the module selected last, and the text's
--- bytes; None for any other part
+-- a text's address in the link, and its bytes; the address is the text's own plus the base of its module's contribution to the section
+-- that the module selected last, modulo octal 200000; None for any other part
 abbrev pub text_in : Findings → List Part → Part → Option (ℕ × List ℕ)
 text_in found before (Text address bytes) =
     Some (modulo (found.base (modules_in before) (current_section (this_module before)) + address), bytes)

@@ -1,4 +1,4 @@
-//! Files of objects, and one file that joins their bytes.
+//! A link of several object files, and a link of one file with their joined bytes.
 
 ghost use Rattle.std.specs.List.{AllByRecursion, concat};
 ghost use Rattle.std.specs.Prelude.{◌∷◌, ◌≤◌, length, List, ℕ, []};

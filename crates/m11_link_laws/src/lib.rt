@@ -10,7 +10,7 @@ pub use spans::{
     relocatable_sections_lie_in_order,
 };
 
-// The effects of another bottom of a link, and of joining files.
+// The effects of a higher bottom on a link, and of joining files.
 mod joining;
 mod moving;
 
@@ -22,7 +22,7 @@ pub use moving::{
     what_moves_together_stays,
 };
 
-// The text of each output, and the order of the writes.
+// The bytes of each output, and the order of the writes.
 mod order;
 mod outputs;
 mod texts;

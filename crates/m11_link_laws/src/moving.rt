@@ -1,4 +1,4 @@
-//! The effects of another bottom of a link: the same parts are linked from one bottom on, and from a bottom that is higher by a
+//! The effects of a higher bottom on a link: the same parts are linked with one bottom, and with another that is higher by a
 //! distance in bytes.
 
 ghost use Rattle.std.specs.Prelude.{◌≡◌, ℕ, ◌+◌, ◌%◌, ◌&&◌, Bool, true, false, List, [], map, option_map, slice_index_or};
@@ -14,11 +14,11 @@ ghost use Rattle.m11_link_text.specs.Relocation.{stored_bytes, value_of};
 ghost use Rattle.m11_link.specs.Written.{link_writes, parts_writes, placed_text, with_relocations};
 ghost use Rattle.m11_link_laws.specs.Moving.{Moved, all_stay, byte_stays, bytes_moved, counting_transfer, farther, findings_moved, is_displaced, moved, moved_after, moves, number_moved, relocations_moved, section_moves, shape_of, stores_limits, target_moves, text_moved, text_position};
 
-/// Relocatable sections move by the distance. With them move the contributions of modules to them, globals in such a contribution,
-/// and both limits. With an even distance the transfer address moves too if its entry, the first one with an even address, names
-/// such a contribution; this entry is then the same for both bottoms. Absolute sections, absolute globals and the transfer address
-/// 1 of a link without a start stay. Sizes, attributes, names and references stay too, since their definitions don't depend on the
-/// bottom.
+/// Relocatable sections move by the distance, and so do the contributions of modules to them, globals in such contributions, and
+/// both limits. Absolute sections and absolute globals stay. Sizes, attributes, names and references stay too, since their
+/// definitions don't depend on the bottom. With an even distance, the first transfer entry with an even address is the same for
+/// both bottoms. The transfer address then moves if this entry names a contribution that moves; otherwise, or if there is no such
+/// entry and the address is 1, it stays.
 #[tactic(auto, using(crate::proofs::MovingFindings::section_is, crate::proofs::MovingFindings::findings_moved, crate::proofs::MovingFindings::counting_is, crate::proofs::MovingFindings::address_is))]
 pub fn moving_the_bottom_moves_what_is_relocated()
     ensures sections { (bottom distance : ℕ) (parts : List Part) (name : ℕ × ℕ)
@@ -77,7 +77,7 @@ pub fn moving_the_bottom_moves_stored_values()
 
 /// A relocation other than that of the limits stores the same bytes with both bottoms if its target and the location from which its
 /// value is counted both move, or neither does. A text has the same bytes if this holds of all its relocations; and in any text, a
-/// byte that no other relocation covers is the same.
+/// byte is the same if this holds of each relocation that covers it.
 #[tactic(auto, using(crate::proofs::MovingLaws::content_stays, crate::proofs::MovingBytes::byte_is_same))]
 pub fn what_moves_together_stays()
     ensures texts { (bottom distance : ℕ) (parts : List Part) (index : ℕ) (section : ℕ × ℕ) (address : ℕ)
@@ -109,8 +109,9 @@ pub fn moving_the_bottom_moves_blocks()
         ≡ map shape_of (parts_writes (findings_of bottom parts) others) }
 {}
 
-/// The whole link from a bottom that is higher by an even distance is the link with the moved findings: its map shows them, and its
-/// transfer block has their transfer address. The messages about undefined globals are the same whatever the distance.
+/// With a bottom that is higher by an even distance, the whole link makes the writes of a link with the moved findings: its map
+/// shows them, and its transfer block has their transfer address. The messages about undefined globals are the same whatever the
+/// distance.
 #[tactic(auto, using(crate::proofs::MovingFront::link_moves, crate::proofs::MovingFront::messages_stay))]
 pub fn moving_the_bottom_moves_the_link()
     ensures link { (bottom distance : ℕ) (parts others : List Part) → distance % 2 ≡ 0
@@ -121,8 +122,8 @@ pub fn moving_the_bottom_moves_the_link()
         ≡ undefined_writes (findings_of bottom parts) (findings_of bottom parts).references }
 {}
 
-/// If the link from the higher bottom isn't too large, the bases of contributions move by exactly the distance: none wraps around
-/// at octal 200000. The link from the lower bottom isn't too large either.
+/// If the link with the higher bottom isn't too large, the bases of contributions move by exactly the distance: none wraps around
+/// at octal 200000. The link with the lower bottom isn't too large either.
 #[tactic(auto, using(crate::proofs::MovingWithin::plain_base, crate::proofs::MovingWithin::nearer_fits))]
 pub fn moving_the_bottom_wraps_no_base()
     ensures bases { (bottom distance : ℕ) (parts : List Part) (index : ℕ) (name : ℕ × ℕ)

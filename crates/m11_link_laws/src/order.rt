@@ -8,9 +8,9 @@ ghost use Rattle.m11_base_writes.specs.Outputs.{Write};
 ghost use Rattle.m11_link.specs.Written.{link_writes, parts_writes};
 ghost use Rattle.m11_link_laws.specs.Order.{BeginsWith, messages_in, reach_tape, undefined_count};
 
-/// At any point of a link, once it has written to the tape, it has already written all messages about undefined globals and the whole map,
-/// and likewise once it has written a message about anything else. As long as a write is left, only writes that come before the transfer
-/// block were made.
+/// Once a link has written to the tape, or has written a message about anything but an undefined global, it has written all messages about
+/// undefined globals and the whole map. The transfer block is the last write: as long as any write is left, only writes that come before
+/// the transfer block were made.
 #[tactic(auto, using(crate::proofs::FrontFirst::front_before_tape, crate::proofs::FrontFirst::front_before_messages, crate::proofs::FrontFirst::all_before_transfer))]
 pub fn map_is_whole_before_the_tape()
     ensures tape { (found : Findings) (parts : List Part) (done more : List Write)

@@ -1,4 +1,4 @@
-//! The text of each output of a link.
+//! The bytes that a link writes to each output.
 
 ghost use Rattle.std.specs.Prelude.{◌≡◌, ℕ, List, [], ◌++◌, length, min, None, Ok};
 ghost use Rattle.std.specs.List.{concat, flat_map};
@@ -16,9 +16,9 @@ ghost use Rattle.m11_link_laws.specs.Texts.{block_of};
 ghost use Rattle.m11_link_laws.specs.LinkedTexts.{linked_texts, tape_blocks};
 ghost use Rattle.m11_link_laws.specs.Lines.{map_lines, message_lines};
 
-/// The tape of whole modules has a block for each of their texts, in order, and then the transfer block. A text's block has the
-/// text's bytes, with the values that its relocations store, at the base of its module's contribution to its section plus the
-/// text's address. A text without data has no block.
+/// The tape of whole modules has a block for each of their texts that has data, in order, and then the transfer block. A text's
+/// block has the text's bytes, with the values that its relocations store. The block's address is the base of the module's
+/// contribution to the text's section plus the text's own address.
 #[tactic(auto, using(crate::proofs::LinkedTextsWritten::tape_of_linked_texts))]
 pub fn linked_texts_are_the_tape()
     ensures { (found : Findings) (parts : List Part) → first_fault [] parts ≡ None → fault_of parts EndOfFile ≡ None
@@ -41,8 +41,8 @@ pub fn objects_make_the_tape_of_their_texts()
         (gained link Product (link_writes (findings_of bottom parts) parts)) }
 {}
 
-/// The map consists of a line for each section, each defined global, and each undefined name, under their headings, and then the
-/// transfer address and the limits, for any parts.
+/// For any parts, the map consists of a line for each section, each defined global, and each undefined name, under their headings,
+/// and then lines for the transfer address and the limits.
 #[tactic(auto, using(crate::proofs::LinesWritten::map_of_lines))]
 pub fn map_is_its_lines()
     ensures { (found : Findings) (parts : List Part)

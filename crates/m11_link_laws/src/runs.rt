@@ -15,9 +15,9 @@ use m11_base::Feed;
 
 /// If both passes read the same known bytes, the outcome of these bytes decides the run. If the outcome is the parts of the
 /// objects, a successful run has written to the tape, the map and the messages exactly what the definitions say, has counted the
-/// messages, and has flushed tape and map; the only possible faults are `Read`, `Write` and `NoMemory`, after which each output
-/// has gained a prefix of its text and no other bytes. If the outcome is a refusal, the run returns that refusal, `Read` or
-/// `NoMemory`, and writes nothing.
+/// messages, and has flushed tape and map; the only possible faults are `Read`, `Write` and `NoMemory`, after which each output has
+/// gained a prefix of its bytes and nothing else. If the outcome is a refusal, the run returns that refusal, `Read` or `NoMemory`,
+/// and writes nothing.
 #[tactic(auto, using(crate::proofs::RunsDecided::run_decided))]
 pub fn known_objects_decide_the_run<F: Feed>()
     ensures { (first again second later : List F) (bottom : ℕ) (sources : List (List ℕ)) (items : List Item)
@@ -27,9 +27,9 @@ pub fn known_objects_decide_the_run<F: Feed>()
         → IsDecided bottom (outcome bottom items) old new returned }
 {}
 
-/// If both passes read the same known bytes, a successful run has added to the tape the blocks of the objects' texts and the
-/// transfer block, which form a tape; to the map its lines; and to the messages their lines, which it has counted. Tape and map
-/// hold nothing back.
+/// If both passes read the same known bytes, a successful run has added to the tape the blocks of the objects' texts that have data
+/// and the transfer block, which together form a tape; to the map its lines; and to the messages their lines, which it has counted.
+/// Tape and map hold nothing back.
 pub fn known_objects_leave_their_texts<F: Feed>()
     ensures { (first again second later : List F) (bottom : ℕ) (sources : List (List ℕ)) (items : List Item)
         (parts : List Part) (old new : Outputs) (done : LinkDone) → AreItems sources items → AreKnown F.text first sources

@@ -17,8 +17,8 @@ pub fn relocatable_sections_lie_in_order()
         → section_base bottom parts name + section_size parts name ≤ section_base bottom parts other }
 {}
 
-/// If no section ends above octal 160000, the contributions to a relocatable section that isn't overlaid are in the order of their modules:
-/// each ends where that of a later module begins, or before, and each is within the section.
+/// If no relocatable section ends past octal 160000, the contributions to a relocatable section that isn't overlaid are in the order of
+/// their modules: each ends at or before the beginning of a later module's contribution, and each is within the section.
 #[tactic(auto, using(crate::proofs::Contributions::they_follow, crate::proofs::Contributions::they_lie_within))]
 pub fn contributions_lie_in_order()
     ensures follow { (bottom : ℕ) (parts : List Part) (name : ℕ × ℕ) (earlier later size other : ℕ)
@@ -36,8 +36,8 @@ pub fn contributions_lie_in_order()
         × (module_base bottom parts index name + size ≤ section_base bottom parts name + section_size parts name) }
 {}
 
-/// If no section ends above octal 160000, all contributions to an overlaid relocatable section begin where the section begins, and each
-/// fits into it.
+/// If no relocatable section ends past octal 160000, all contributions to an overlaid relocatable section begin where the section
+/// begins, and each fits into it.
 #[tactic(auto, using(crate::proofs::Contributions::overlaid_together, crate::proofs::Contributions::overlaid_fits))]
 pub fn overlaid_contributions_begin_together()
     ensures together { (bottom : ℕ) (parts : List Part) (name : ℕ × ℕ) (index size : ℕ)

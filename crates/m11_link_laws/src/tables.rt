@@ -9,7 +9,7 @@ ghost use Rattle.m11_link_laws.specs.Tables.{ContributionsKept, GlobalsKept, Mod
 
 /// The tables of a link of objects without a fault grow only with the names of modules, sections and globals, and each has a
 /// largest possible size. The number of texts and relocations doesn't matter. In whole records and files, where no section is
-/// entered between modules, the number of contributions is at most the greatest number of modules times the greatest number of
+/// entered between modules, the number of contributions is at most the allowed number of modules times the allowed number of
 /// sections. The same holds of a plan: the tables in the result of `Layout::end` are bounded.
 pub fn tables_grow_with_names_alone()
     ensures modules { (bottom : ℕ) (parts : List Part) → first_fault [] parts ≡ None → ModulesKept bottom parts }

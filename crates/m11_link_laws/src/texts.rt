@@ -12,9 +12,9 @@ ghost use Rattle.m11_link.specs.Outputs.{link};
 ghost use Rattle.m11_link.specs.Written.{link_writes};
 ghost use Rattle.m11_link_laws.specs.Texts.{block_of, stores, texts_of};
 
-/// If no relocation stores anything, the tape of whole modules has a block for each text, in order, and then the transfer block. A
-/// block has the text's own bytes, at the base of its module's contribution to its section plus the text's address. A text without
-/// data has no block.
+/// If no relocation stores anything, the tape of whole modules has a block for each text that has data, in order, and then the
+/// transfer block. A text's block has the text's own bytes. The block's address is the base of the module's contribution to the
+/// text's section plus the text's own address.
 #[tactic(auto, using(crate::proofs::PlainTextsWritten::tape_of_texts))]
 pub fn unrelocated_texts_are_the_tape()
     ensures { (found : Findings) (parts : List Part) → first_fault [] parts ≡ None → fault_of parts EndOfFile ≡ None

@@ -21,13 +21,13 @@ use Rattle.m11_link_layout.proofs.Sizing.{totals_in}
 abbrev Name : Type 0
 Name = ℕ × ℕ
 
--- ---- names that stand once
+-- ---- distinct names
 
 pub none_of : (b c : Bool) → b ≡ false → c ≡ false → (b || c) ≡ false
 none_of true c e f = search
 none_of false c e f = f
 
--- none of the names before one is that one
+-- if names are distinct, none of them is among those before it
 pub apart_before : (done : List (ℕ × ℕ)) (name : ℕ × ℕ) (rest : List (ℕ × ℕ)) → Apart is_same_name (done ++ name ∷ rest)
     → list_any (is_same_name name) done ≡ false
 apart_before [] name rest d = refl
@@ -70,14 +70,14 @@ inserted_last f (first ∷ done) name value e =
 moved : (a b c : ℕ) → a + b + c ≡ a + (b + c)
 moved a b c = omega arith
 
--- the cap is past the limit
+-- capping a size at octal 200000 doesn't change whether a section ends past octal 160000
 capped_test : (next size : ℕ) → nat_lt 57344 (next + min 65536 size) ≡ nat_lt 57344 (next + size)
 capped_test next size = grind (arith, nat_tests)
 
 uncapped : (next size : ℕ) → nat_lt 57344 (next + size) ≡ false → min 65536 size ≡ size
 uncapped next size e = grind (arith, nat_tests)
 
--- one more section, if the others lead to this result
+-- one more section is placed, if placing the others after it has this result
 module _ (onto : List (Name × ℕ) → ℕ → Option Bases) (bases : List (Name × ℕ)) (name : Name) (next size : ℕ)
     (more : Bool) (returned : Bases)
     (last : (value : ℕ) → insert_entry is_same_name bases name value ≡ bases ++ (name, value) ∷ []) where
@@ -165,7 +165,7 @@ module _ (attributes size : Name → ℕ) (bottom : ℕ) (all : List Name) where
       (subst Q (ap (λ n. bottom + n) (sum_by_push room done name) ∙ sym (moved bottom (sum_by room done) (room name)))
       (subst P (map-append (λ n. (n, base n)) done (name ∷ [])) more))
 
--- the bases of the sections of some parts
+-- placing the sections of some parts fails if they are too large, and otherwise yields the bases and the top of the definitions
 pub bases_placed : (bottom : ℕ) (parts : List Part) → Apart is_same_name (section_names parts)
     → bases_onto [] bottom (totals_in parts) ≡ (if is_too_large bottom parts then None
     else Some (record {

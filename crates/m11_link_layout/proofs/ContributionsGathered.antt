@@ -25,7 +25,7 @@ use Rattle.m11_link_layout.proofs.SectionsGathered.{SectionsOf}
 abbrev Contributions : Type 0
 Contributions = List ((ℕ × (ℕ × ℕ)) × ℕ)
 
--- these contributions are those of the parts
+-- these contributions are those that the modules of the parts make
 abbrev pub ContributionsOf : List Part → List ((ℕ × (ℕ × ℕ)) × ℕ) → Type 0
 ContributionsOf before contributions =
     (index : ℕ) (name : ℕ × ℕ) → lookup (is_contribution (index, name)) contributions

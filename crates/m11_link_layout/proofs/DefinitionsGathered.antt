@@ -36,7 +36,7 @@ definitions_more : (before : List Part) (part : Part)
 unfolding definitions_of
 definitions_more before part = reported_more definition_in before part
 
--- one more pair, which counts if it is the first of its name
+-- if a further pair is added only where its name is new, the names are those so far with its name inserted
 first_keys : (b : Bool) (table : Definitions) (pair : (ℕ × ℕ) × Definition)
     → is_some (lookup (is_same_name pair.0) table) ≡ b
     → keys_of (if b then table else insert_entry is_same_name table pair.0 pair.1)

@@ -95,7 +95,7 @@ too_large bottom before reading s h =
     let S : ℕ → Type 0 = λ n. bases_onto [] n reading.gathered.sections ≡ None in
     subst P (nothing_more bottom before) (subst P s.gathered (subst S s.bottom_is h))
 
--- the plan after the end of the last file
+-- the result of a plan after the end of the last file is a result of the first pass
 pub ended : (bottom : ℕ) (before : List Part) (reading : LayoutState) (result : Result PlanTables LinkFault)
     → LayoutAfter bottom (before ++ EndOfFile ∷ []) reading → Plans reading.bottom reading.gathered result
     → LayoutEnds bottom before result
@@ -152,7 +152,7 @@ pub end_fault : (before : List Part) (said : ModuleFault) → first_fault before
 unfolding first_fault fault_known
 end_fault before said e = inside (known_of before).stage said e
 
--- the end of the last file has no other fault, and wants no memory
+-- if the end of the last file has the fault BadOrder, this is a result of the first pass
 pub end_refused : (bottom : ℕ) (before : List Part) (reported : LinkFault) → reported ≡ fault.BadOrder
     → FirstFault before (EndOfFile ∷ []) reported → LayoutEnds bottom before (Err reported)
 end_refused bottom before reported is h =

@@ -1,5 +1,5 @@
--- Contributions of relocatable sections lie at even distances from the bottom, so an address after one is even by the
--- bottom and its value.
+-- Contributions to relocatable sections begin at even distances from the bottom, so the bottom and an offset in one decide whether
+-- its address is even.
 use Rattle.std.proofs.Common.{◌≡◌, ℕ, ◌+◌, ◌%◌, max, sum, sum_by, nat_eq, Bool, true, false, ◌&&◌, not, if◌then◌else◌, List, [], ◌∷◌, map, is_some, Option, Some, None, refl, sym, ap, subst, arith}
 use Rattle.std.proofs.lemmas.List.Sums.{sum_by-cons}
 use Rattle.m11_link_modules.specs.Parts.{Part}

@@ -1,4 +1,4 @@
--- Names that stand once are no more than the names that they are among.
+-- Distinct names are no more than the names that they are among.
 use Rattle.std.proofs.Common.{◌≡◌, ℕ, ◌+◌, ◌≤◌, Bool, true, false, ◌||◌, if◌then◌else◌, List, [], ◌∷◌, length, refl, sym, ap, ◌∙◌, subst, arith, true≢false}
 use Rattle.indexmap.specs.IndexSet.{insert_key}
 use Rattle.m11_base.specs.Rad50.{is_same_name}
@@ -15,7 +15,7 @@ Name = ℕ × ℕ
 abbrev pub Within : List (ℕ × ℕ) → List (ℕ × ℕ) → Type 0
 Within names others = (name : ℕ × ℕ) → is_among names name ≡ true → is_among others name ≡ true
 
--- ---- one name less
+-- ---- one name fewer
 
 abbrev without : Name → List Name → List Name
 without name [] = []
@@ -62,7 +62,7 @@ shorter name (first ∷ names) a = by (is_same_name name first) (no_longer name 
     by true l k h = omega (arith, l)
     by false l k h = let m = k h in omega (arith, m)
 
--- ---- as many at most
+-- ---- at most as many names
 
 differs : (name other : Name) (names : List Name) → is_among names name ≡ false → is_among names other ≡ true
     → is_same_name other name ≡ false
@@ -84,7 +84,7 @@ no_more (name ∷ names) others d w =
     (w other (or_true (is_same_name other name) (is_among names other) a))) in
     omega arith
 
--- ---- names that go last where they are new
+-- ---- names that are added at the end if they are new
 
 or_false : (b : Bool) → (b || false) ≡ b
 or_false true = refl
@@ -103,7 +103,7 @@ distinct_among seen (name ∷ names) other =
     ∙ ap (λ b. b || is_among names other) (among_inserted seen name other)
     ∙ moved_or (is_among seen other) (is_same_name other name) (is_among names other)
 
--- a name is among distinct ones where it is among all
+-- a name is among the distinct names of a list if and only if it is in the list
 pub among_distinct : (names : List (ℕ × ℕ)) (other : ℕ × ℕ) → is_among (distinct names) other ≡ is_among names other
 unfolding distinct
 among_distinct names other = distinct_among [] names other

@@ -1,4 +1,4 @@
--- Look-ups in lists of pairs, and names that stand in a list once.
+-- Look-ups in lists of pairs, and lists of distinct names.
 use Rattle.std.proofs.Common.{◌≡◌, ℕ, ◌==◌, ◌&&◌, Bool, true, false, cond, ◌||◌, if◌then◌else◌, List, [], ◌∷◌, ◌++◌, map, option_map, Option, Some, refl, sym, ap, ◌∙◌, subst, true≢false, arith}
 use Rattle.std.specs.List.{cons_option, filter_map, list_any}
 use Rattle.std.specs.Map.{keys_of, lookup}
@@ -12,7 +12,7 @@ use Rattle.m11_base.proofs.SameNames.{same_name_equal, same_name_itself}
 use Rattle.m11_link_modules.specs.Positions.{distinct, distinct_after}
 use Rattle.m11_link_layout.specs.Tables.{is_contribution}
 
--- ---- two names are one where the test says so
+-- ---- two names are equal if the test is true for them
 
 both : (b c : Bool) → (b && c) ≡ true → (b ≡ true) × (c ≡ true)
 both true c e = (refl, e)
@@ -57,7 +57,7 @@ pub lookup_append : {K X : Type 0} (test : K → Bool) (es fs : List (K × X))
 lookup_append test [] fs = refl
 lookup_append test (e ∷ es) fs = chosen_or (test e.0) e.1 _ _ (lookup test fs) (lookup_append test es fs)
 
--- names that stand once
+-- names are distinct: no two of them are the same
 module _ {K : Type 0} (eq : K → K → Bool) where
   abbrev pub Apart : List K → Type 0
   Apart [] = Unit {0}
@@ -94,7 +94,7 @@ module _ {K : Type 0} (eq : K → K → Bool) (same : (x y : K) → eq x y ≡ t
       ap (λ o. cond (eq q e.0) (Some e.1) o) h ∙ swap_tests (eq q e.0) (eq q k) (Some e.1) (Some v)
       (lookup (eq q) es) two
 
-  -- what is found after one more pair
+  -- after a pair is inserted, a look-up of its name finds its value, and any other look-up finds what it found before
   pub lookup_inserted : {X : Type 0} (q k : K) (v : X) (es : List (K × X))
       → lookup (eq q) (insert_entry eq es k v) ≡ cond (eq q k) (Some v) (lookup (eq q) es)
   lookup_inserted q k v [] = refl
@@ -110,7 +110,7 @@ module _ {K : Type 0} (eq : K → K → Bool) (same : (x y : K) → eq x y ≡ t
   turned x k true e f =
       let P : K → Type 0 = λ y. eq y x ≡ false in absurd (true≢false (sym (itself x) ∙ subst P (sym (same x k e)) f))
 
-  -- a name that isn't there may go last
+  -- if names are distinct and a name isn't among them, they are distinct with this name at the end
   apart_more : (ks : List K) (k : K) → list_any (eq k) ks ≡ false → Apart eq ks → Apart eq (ks ++ k ∷ [])
   apart_more [] k e d = (refl, tt)
   apart_more (x ∷ ks) k e d =
@@ -138,7 +138,7 @@ module _ {K : Type 0} (eq : K → K → Bool) (same : (x y : K) → eq x y ≡ t
       let P : K → Type 0 = λ k. list_any (eq k) (keys_of es) ≡ true in
       absurd (true≢false (sym (subst P (same q e.0 t) a) ∙ d))
 
-  -- pairs whose names stand once are what is found under them
+  -- if the names of pairs are distinct, and each is looked up as this value, the pairs are these names with these values
   pub pairs_found : {X : Type 0} (f : K → X) (es : List (K × X)) → Apart eq (keys_of es)
       → ((q : K) → list_any (eq q) (keys_of es) ≡ true → lookup (eq q) es ≡ Some (f q))
       → es ≡ map (λ k. (k, f k)) (keys_of es)
@@ -159,7 +159,7 @@ module _ {K : Type 0} (eq : K → K → Bool) (same : (x y : K) → eq x y ≡ t
       let P : K → Type 0 = λ k. list_any (eq k) (keys_of es) ≡ true in
       absurd (true≢false (sym (subst P (same q e.0 t) a) ∙ d))
 
-  -- if no name stands twice in a list of pairs, a report on each name that looks up its pair is a report on each pair
+  -- if no name occurs twice in a list of pairs, a report on each name with what is found under it is a report on each pair
   pub each_reported : {X Y : Type 0} (report : K → X → Y) (find : K → Option X) (es : List (K × X)) → Apart eq (keys_of es)
       → ((q : K) → list_any (eq q) (keys_of es) ≡ true → find q ≡ lookup (eq q) es)
       → filter_map (λ k. option_map (report k) (find k)) (keys_of es) ≡ map (λ e. report e.0 e.1) es
@@ -172,7 +172,7 @@ module _ {K : Type 0} (eq : K → K → Bool) (same : (x y : K) → eq x y ≡ t
       (h q (or_true (eq q e.0) (list_any (eq q) (keys_of es)) t))) in
       λ j. cons_option (option_map (report e.0) (first j)) (rest j)
 
--- names that are reported in order of first appearance stand once
+-- names in the order of first appearance are distinct
 apart_after : (seen names : List (ℕ × ℕ)) → Apart is_same_name seen → Apart is_same_name (distinct_after seen names)
 apart_after seen [] d = d
 apart_after seen (name ∷ names) d =

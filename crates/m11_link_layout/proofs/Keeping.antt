@@ -16,11 +16,11 @@ module _ {A : Type 0} (F : LayoutTables → A) (g : LayoutTables)
   by_symbol false true entry = keeps _ _ _
   by_symbol false false entry = keeps _ _ _
 
-  -- a symbol's entry changes globals alone
+  -- a symbol's entry changes only globals
   pub symbol_keeps : (entry : GsdEntry) → F (with_symbol entry g) ≡ F g
   symbol_keeps entry = by_symbol (defines entry) (has_bits 1 entry.flags) entry
 
-  -- and so does a relocation
+  -- a relocation changes only globals
   pub relocated_keeps : (global : Option (ℕ × ℕ)) → F (with_relocated global g) ≡ F g
   relocated_keeps None = refl
   relocated_keeps (Some name) = keeps _ _ _

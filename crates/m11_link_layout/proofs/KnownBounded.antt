@@ -27,7 +27,7 @@ use Rattle.m11_link_layout.proofs.Walking.{rest_none}
 use Rattle.m11_link_layout.proofs.ReferenceSteps.{among_inserted}
 use Rattle.m11_link_layout.proofs.FewerNames.{Within}
 
--- the numbers are within their limits, and a module enters each of the sections once
+-- modules, sections and globals are within their limits, and the sections that the module entered are distinct and among all sections
 pub record BoundsOf (stage : Stage) (count : ℕ) (names symbols : List (ℕ × ℕ)) (entered : List ((ℕ × ℕ) × ℕ))
     : Type 0 where
   pub modules : InLimits stage count
@@ -39,7 +39,7 @@ pub record BoundsOf (stage : Stage) (count : ℕ) (names symbols : List (ℕ × 
 abbrev pub Bounded : RulesState → Type 0
 Bounded known = BoundsOf known.stage known.modules known.sections known.globals known.entered
 
--- ---- there is no such fault
+-- ---- faults that parts don't have
 
 first_none : (b : Bool) (fault : ModuleFault) (faults : List (Bool × ModuleFault))
     → first_there ((b, fault) ∷ faults) ≡ None → (b ≡ false) × (first_there faults ≡ None)
@@ -137,7 +137,7 @@ target_bounded (target.SectionDisplaced name) relocation known e b = b
 target_bounded (target.SectionAdditive name constant) relocation known e b = b
 target_bounded (target.SectionAdditiveDisplaced name constant) relocation known e b = b
 
--- a module begins only where there is room for one more
+-- if a module may begin without a fault, fewer modules have ended than a link accepts
 one_more : (modules : ℕ) → begin_fault Between modules ≡ None → modules < most_modules
 one_more modules e =
     let past = first_none (nat_le most_modules modules) TooManyModules [] e in below past.0
@@ -201,7 +201,7 @@ bounded_step known EndOfModule e b = record {
 }
 bounded_step known EndOfFile e b = b
 
--- the modules that ended are no more than there may be
+-- no more modules have ended than a link accepts
 pub modules_within : (stage : Stage) (modules : ℕ) → InLimits stage modules → modules ≤ most_modules
 modules_within Between modules l = l
 modules_within InDirectory modules l = omega (arith, l)

@@ -1,4 +1,4 @@
--- What a plan has listed of contributions and globals.
+-- The lists of bases and values in a plan.
 use Rattle.std.proofs.Common.{◌≡◌, ℕ, ◌+◌, ◌%◌, ◌<◌, ◌≤◌, Bool, true, false, cond, List, [], ◌∷◌, ◌++◌, append_assoc, append-nil, length, drop, get_or, map, slice_get, option_map, is_some, true≢false, ◌||◌, Option, Some, None, Err, refl, sym, ap, subst, ◌∙◌, arith}
 use Rattle.std.specs.Map.{lookup, lookup_key}
 use Rattle.std.specs.Prelude.{option_and_then}
@@ -39,7 +39,7 @@ found_key test [] key e = absurd (none_some key e)
 found_key test (entry ∷ entries) key e =
     key_by test entry.0 key (test entry.0) (lookup_key test entries) refl (found_key test entries key) e
 
--- an entry that is put again changes nothing
+-- inserting an entry that is already in the list changes nothing
 insert_by : {K V : Type 0} (entry : K × V) (entries inserted : List (K × V)) (value : V) (b : Bool) (others : Option V)
     → (others ≡ Some value → inserted ≡ entries) → cond b (Some entry.1) others ≡ Some value
     → cond b ((entry.0, value) ∷ entries) (entry ∷ inserted) ≡ entry ∷ entries
@@ -54,7 +54,7 @@ insert_same eq (entry ∷ entries) key value e =
     insert_by entry entries (insert_entry eq entries key value) value (eq key entry.0) (lookup (eq key) entries)
     (insert_same eq entries key value) e
 
--- a reference that is strong stays so, and one that isn't is as it is noted
+-- if a look-up of a reference yields true, the reference was found and is strong
 strong_by : (found : Option Bool) → unwrap_or found false ≡ true → found ≡ Some true
 strong_by None e = absurd (true≢false (sym e))
 strong_by (Some b) e = ap (λ (x : Bool). Some x) e
@@ -74,7 +74,7 @@ reference_stays {seen} g name is_strong is e =
     let P : LayoutTables → Type 0 = λ x. x ≡ with_reference name is_strong x in
     subst P is (reference_same seen name is_strong e)
 
--- where a contribution stands
+-- if the key found for a contribution is at this index with this offset, the contribution is there
 pub stands : {seen : LayoutTables} (g : LayoutTables) (key stored : ℕ × (ℕ × ℕ)) (index offset : ℕ) → seen ≡ g
     → slice_get seen.contributions index ≡ Some (stored, offset)
     → Some stored ≡ lookup_key (is_contribution key) seen.contributions → LiesAt key index offset g.contributions
@@ -130,7 +130,7 @@ value_listed plan name index value at e =
     (sym (slice_get-map (λ entry. value_at plan entry.1.module_index entry.1.location) plan.gathered.definitions index) ∙ e)
     (sym (slice_get-map (λ entry. entry.1) plan.gathered.definitions index) ∙ at)
 
--- ---- what a look-up finds, given what a call saw
+-- ---- the results of look-ups, given what a call returned
 
 shown : (xs ys : List ℕ) (index value : ℕ) → xs ≡ ys → index < length xs → value ≡ get_or xs index value
     → slice_get ys index ≡ Some value
@@ -149,7 +149,7 @@ module _ {seen : PlanTables} (plan : PlanTables) (is : seen ≡ plan) where
       subst P is (base_listed seen module_index section index offset base at (sym found)
       (agrees index base (shown taken bases index base same lt e)))
 
-  -- the index that the look-up of a definition returned
+  -- the definition at this index is the one that a look-up of the name finds
   abbrev IsFoundAt : (ℕ × ℕ) → ℕ → Type 0
   IsFoundAt name index = slice_get (map (λ entry. entry.1) seen.gathered.definitions) index
       ≡ lookup (is_same_name name) seen.gathered.definitions
@@ -200,7 +200,7 @@ base_by plan (Some entry) section offset e =
     ap (λ (f : (ℕ × ℕ) × ℕ). Some ((planned_section_base plan f.0 + f.1) % 0o200000))
     (some_is (section_and_offset entry) (section, offset) e)
 
--- the base of a contribution by its section and its offset
+-- the base of a contribution's section plus the contribution's offset is the item of the list of bases at its index
 pub base_made : {seen : PlanTables} (plan : PlanTables) (index : ℕ) (section : ℕ × ℕ) (offset base below : ℕ) → seen ≡ plan
     → option_map section_and_offset (slice_get seen.gathered.contributions index) ≡ Some (section, offset)
     → below ≡ planned_section_base plan section → base ≡ (below + offset) % 0o200000
@@ -223,7 +223,7 @@ first_placed : (here : Option Bases) (following : Bases → Option Bases) (all :
 first_placed None following all e = absurd (none_some all e)
 first_placed (Some b) following all e = refl
 
--- at the first section, if there is one and all were placed
+-- if there is a section, and all sections were placed, memory may be refused at the first section or later
 pub stops_first : (next : ℕ) (sections : List ((ℕ × ℕ) × Total)) (all : Bases) → bases_onto [] next sections ≡ Some all
     → 0 < length sections → StopsAtSection [] next sections
 stops_first next [] all e lt = absurd (omega arith)

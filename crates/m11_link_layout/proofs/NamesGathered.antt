@@ -17,7 +17,7 @@ use Rattle.m11_link_layout.proofs.Keeping.{relocated_keeps, symbol_keeps}
 use Rattle.m11_link_layout.proofs.ModulesOfParts.{add_zero, one_ended, module_more, modules_are, modules_more, where_true}
 use Rattle.m11_link_layout.proofs.Sizing.{or_none}
 
--- the names of the modules that ended, and that of this one as far as it is given
+-- these names are those of the modules that ended, and `name` is that of the current module, if an entry has it
 pub record NamesOf (before : List Part) (names : List (ℕ × ℕ)) (name : Option (ℕ × ℕ)) : Type 0 where
   pub count : length names ≡ modules_in before
   pub reported : name ≡ name_reported (this_module before)
@@ -39,7 +39,7 @@ reported_more own part =
 not_here : (n index : ℕ) → index < n → nat_eq n index ≡ false
 not_here n index h = grind (arith, nat_tests)
 
--- a module that ended stays as it is
+-- a further part doesn't change the parts of a module that ended
 ended_stays : (before : List Part) (part : Part) (index : ℕ) → index < modules_in before
     → module_at (before ++ part ∷ []) index ≡ module_at before index
 ended_stays before part index h =
@@ -64,12 +64,12 @@ goes_on before part names old new e z is n =
           ∙ ap (λ own. module_name own) (sym (ended_stays before part index h'));
     }
 
--- ---- an end
+-- ---- the end of a module
 
 here : (n : ℕ) → nat_eq n n ≡ true
 here n = grind (arith, nat_tests)
 
--- the module that ends is as it was, with its end
+-- the parts of a module that ends are its parts so far, and then its end
 this_ends : (before : List Part) → module_at (before ++ EndOfModule ∷ []) (modules_in before)
     ≡ this_module before ++ EndOfModule ∷ []
 this_ends before =

@@ -1,4 +1,4 @@
--- Names that parts report in any way are names that they have.
+-- Names that parts define or refer to are among the global names in the parts.
 use Rattle.std.proofs.Common.{◌≡◌, ℕ, Bool, true, false, ◌&&◌, ◌||◌, not, if◌then◌else◌, List, [], ◌∷◌, ◌++◌, Option, Some, None, refl, sym, ap, subst}
 use Rattle.std.specs.List.{cons_option, filter_map, list_any}
 use Rattle.std.specs.Map.{keys_of}
@@ -20,7 +20,7 @@ use Rattle.m11_link_layout.proofs.FewerNames.{Within}
 abbrev Name : Type 0
 Name = ℕ × ℕ
 
--- the names that parts have
+-- the global names in the parts, each as often as it occurs
 abbrev Named : List Part → List Name
 Named parts = filter_map global_in parts
 
@@ -176,7 +176,7 @@ one_named : (global : Option Name) (names : List Name) (name : Name) → is_amon
 one_named None names name a = a
 one_named (Some global) names name a = or_true (is_same_name name global) (is_among names name) a
 
--- the weak names of the last module alone
+-- the weak names of the current module are among the global names in all parts
 pub weak_within : (parts : List Part) → Within (weak_names (this_module parts)) (filter_map global_in parts)
 unfolding weak_names this_module
 weak_within [] name a = a

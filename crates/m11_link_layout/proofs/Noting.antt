@@ -1,4 +1,4 @@
--- Records whose parts are noted one after another.
+-- Records whose parts are stored in the tables one after another.
 use Rattle.std.proofs.Common.{◌≡◌, ℕ, ◌+◌, ◌≤◌, List, [], ◌∷◌, length, map, drop, slice_get, Some, sym, subst}
 use Rattle.std.proofs.lemmas.List.{drop_all}
 use Rattle.m11_obj.specs.declared.gsd.GsdEntry.{GsdEntry}
@@ -42,7 +42,7 @@ module _ {X : Type 0} (bottom : ℕ) (make : X → Part) where
       → now ≡ gathered_after_all bottom old (map make items)
   items_noted old now items index le i = walk_ended old now items (drop index items) (drop_all index items le) i
 
--- an entry and a relocation, according to what they say
+-- storing an entry by its kind is the step of the tables for this entry
 pub entry_noted : (bottom : ℕ) (now later : LayoutTables) (entry : GsdEntry)
     → later ≡ with_entry bottom entry.kind entry now
     → later ≡ gathered_after bottom now (Entry entry)

@@ -1,4 +1,4 @@
--- Where a module's contribution lies after those of earlier modules.
+-- The offset of a module's contribution, after those of earlier modules.
 use Rattle.std.proofs.Common.{◌≡◌, ℕ, ◌&&◌, min, sum, not, nat_eq, nat_lt, Bool, true, false, cond, if◌then◌else◌, List, [], ◌∷◌, ◌++◌, map, append-nil, Option, Some, None, refl, sym, ap, ◌∙◌, subst}
 use Rattle.std.specs.Int.RustNames.{bit_and}
 use Rattle.std.specs.List.{cons_option, filter_map}
@@ -88,7 +88,7 @@ earlier_sizes_more before part index name =
     ∙ ap (λ reported. sizes_of (modules_before before index) name ++ filter_map (size_under name) reported)
     (sections_where (nat_lt (modules_in before) index) part)
 
--- a module enters no section without attributes
+-- an alternative of two options is None only if both are None
 both_none : (first rest : Option ℕ) → option_or first rest ≡ None → (first ≡ None) × (rest ≡ None)
 both_none None rest e = (refl, e)
 both_none (Some x) rest e = search
@@ -126,7 +126,7 @@ pub enters_reported : (parts : List Part) (index : ℕ) (name : ℕ × ℕ) → 
     → entered_at parts index name ≡ None
 enters_reported parts = grown EntersReported enters_more parts enters_none
 
--- a module that hasn't entered a section has no size of it
+-- if a section isn't found among entries, the entries have no size for it
 no_size : (name : ℕ × ℕ) (reported : List ((ℕ × ℕ) × ℕ)) → lookup (is_same_name name) reported ≡ None
     → filter_map (size_under name) reported ≡ []
 no_size name [] e = refl
@@ -140,7 +140,7 @@ no_size name (first ∷ reported) e =
     by true size found sizes h e = search
     by false size found sizes h e = h e
 
--- so all its sizes are those of earlier modules
+-- if the current module hasn't entered a section, all sizes of the section are those of earlier modules
 pub earlier_sizes : (before : List Part) (name : ℕ × ℕ)
     → lookup (is_same_name name) (sections_in (this_module before)) ≡ None
     → sizes_of (modules_before before (modules_in before)) name ≡ sizes_of before name
@@ -179,7 +179,7 @@ next_by true true sizes = refl
 next_by true false sizes = refl
 next_by false overlaid sizes = refl
 
--- the next contribution lies after those before it
+-- the offset of the next contribution is that after the sizes so far, at most the cap
 pub next_is : (found : Option ℕ) (sizes : List ℕ) (attributes : ℕ) → (found ≡ None → sizes ≡ [])
     → next_offset (total_from found sizes) ≡ min size_cap
     (offset_after (unwrap_or (option_or found (Some attributes)) 0) sizes)

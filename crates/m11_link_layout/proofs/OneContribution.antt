@@ -48,7 +48,7 @@ reported_one : (b : Bool) (part : Part) (reported : List ((ℕ × ℕ) × ℕ)) 
 reported_one true part reported s = s
 reported_one false part reported s = refl
 
--- a part that enters no section
+-- a part that enters no section changes no contribution
 pub contribution_kept : (before : List Part) (part : Part) (index : ℕ) (name : ℕ × ℕ)
     → filter_map attributes_in (part ∷ []) ≡ []
     → filter_map section_in (part ∷ []) ≡ [] → contribution_of (before ++ part ∷ []) index name
@@ -60,7 +60,7 @@ contribution_kept before part index name a s =
     ∙ (λ j. contribution_from (or_none (entered_at before index name) j) (or_none (attributes_found before name) j)
     (append-nil (sizes_of (modules_before before index) name) j))
 
--- a part that enters one: in this module, under this name, or neither
+-- the size that a part enters in this module under this name; None if it is in another module or has another name
 reported_if : Bool → Bool → ℕ → Option ℕ
 reported_if here named size = if here then cond named (Some size) None else None
 
@@ -140,7 +140,7 @@ here_is n index e = grind (arith, nat_tests)
 turned_test : (n index : ℕ) → (index == n) ≡ nat_eq n index
 turned_test n index = grind (arith, nat_tests)
 
--- what this module enters first lies after what earlier ones entered
+-- the current module's first entry of a section has the offset after the contributions of earlier modules
 this_offset : (before : List Part) (name : ℕ × ℕ) (attributes offset : ℕ)
     → lookup (is_same_name name) (sections_in (this_module before)) ≡ None
     → offset ≡ next_offset (total_of before name)

@@ -15,7 +15,7 @@ Based = List ((ℕ × ℕ) × ℕ)
 abbrev pub Sections : Type 0
 Sections = List ((ℕ × ℕ) × Total)
 
--- if the sections that are left lead to a result, so does placing the first of them, and then the others
+-- if placing the remaining sections has a result, so does placing the first of them and then the others
 opened : (now : Based) (next : ℕ) (sections : Sections) (index : ℕ) (section : (ℕ × ℕ) × Total) (all : Option Bases)
     → slice_get sections index ≡ Some section → bases_onto now next (drop index sections) ≡ all
     → option_and_then (λ following. bases_onto following.bases following.top (drop (index + 1) sections))
@@ -42,7 +42,7 @@ none_placed now next sections index section all e i h =
     (λ following. bases_onto following.bases following.top (drop (index + 1) sections)) o ≡ all in
     sym (subst P h (opened now next sections index section all e i))
 
--- the sections up to an index, and the one there
+-- the sections up to and including an index are those before it and the one at it
 take_at : (sections : Sections) (index : ℕ) (section : (ℕ × ℕ) × Total) → slice_get sections index ≡ Some section
     → take (index + 1) sections ≡ take index sections ++ section ∷ []
 take_at sections index section e =
@@ -56,7 +56,7 @@ parted_at sections index section e =
     let P : Sections → Type 0 = λ left. sections ≡ take index sections ++ left in
     subst P (drop_at sections index section e) (sym (take-append-drop index sections))
 
--- sections that are placed, one more of which is placed too
+-- placing sections with further ones after them is placing the former and then the latter
 abbrev PlacedOn : Sections → Sections → Type 0
 PlacedOn before after = (bases : Based) (next : ℕ) → bases_onto bases next (before ++ after)
     ≡ option_and_then (λ following. bases_onto following.bases following.top after) (bases_onto bases next before)
@@ -96,7 +96,7 @@ placed_so_far first now later bottom next top sections index section e i h =
     subst P (sym (take_at sections index section e))
     (one_more first now bottom next (take index sections) section i ∙ h)
 
--- memory was refused at the section at the index
+-- if the section at this index fits, and memory is refused for it, placing stops at one of the sections
 refused_at : (first now : Based) (bottom next : ℕ) (sections : Sections) (index : ℕ) (section : (ℕ × ℕ) × Total)
     → slice_get sections index ≡ Some section
     → bases_onto first bottom (take index sections) ≡ Some (record { bases = now; top = next })

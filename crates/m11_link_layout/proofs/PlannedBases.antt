@@ -1,4 +1,4 @@
--- The base that a plan reports a contribution is that of the definitions.
+-- The base of a contribution in a plan is that of the definitions.
 use Rattle.std.proofs.Common.{◌≡◌, ℕ, ◌+◌, ◌%◌, ◌≤◌, min, sum, Bool, true, false, cond, ◌&&◌, ◌||◌, not, nat_lt, if◌then◌else◌, List, [], ◌∷◌, ◌++◌, map, is_some, Option, Some, None, refl, sym, ap, ◌∙◌, true≢false, arith}
 use Rattle.std.specs.List.{filter_map, list_any}
 use Rattle.std.specs.Map.{lookup}
@@ -40,7 +40,7 @@ is_section parts sections index name size s e =
     ∙ found_somewhere (attributes_found parts name) (sizes_of parts name) (entered_at parts index name) size e
     (enters_reported parts index name)
 
--- what is true of no name of a list is true of none in it
+-- a test that is true for no name of a list is false for each name in it
 pub none_high : (test : ℕ × ℕ → Bool) (names : List (ℕ × ℕ)) (name : ℕ × ℕ) → list_any test names ≡ false
     → list_any (is_same_name name) names ≡ true → test name ≡ false
 none_high test [] name n t = absurd (true≢false (sym t))
@@ -101,7 +101,7 @@ earlier_none : Earlier []
 unfolding sizes_of modules_before
 earlier_none index name = omega arith
 
--- earlier contributions are part of the section
+-- the sum of earlier contributions is at most the sum of all contributions to the section
 earlier_within : (parts : List Part) (index : ℕ) (name : ℕ × ℕ)
     → rounded_sum (sizes_of (modules_before parts index) name) ≤ rounded_sum (sizes_of parts name)
 earlier_within parts = grown Earlier earlier_more parts earlier_none
@@ -135,7 +135,7 @@ offset_uncapped bottom parts index name n t =
 
 -- ---- the base of a contribution
 
--- these bases are those of the sections
+-- the bases of all sections, each with the section's name
 abbrev pub bases_of : ℕ → List Part → List ((ℕ × ℕ) × ℕ)
 bases_of bottom parts = map (λ name. (name, section_base bottom parts name)) (section_names parts)
 

@@ -25,7 +25,7 @@ use Rattle.m11_link_layout.proofs.PlannedBases.{bases_of, found_mapped}
 use Rattle.m11_link_layout.proofs.SectionsGathered.{SectionsOf, sections_are}
 use Rattle.m11_link_layout.proofs.Sizing.{attributes_found, total_from, total_in}
 
--- ---- what stands at an index
+-- ---- the item at an index
 
 pub sections_counted : (plan : PlanTables) → length (planned_sections plan) ≡ length plan.gathered.sections
 unfolding planned_sections

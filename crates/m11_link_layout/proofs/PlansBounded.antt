@@ -23,7 +23,7 @@ none_found found e = cc
 same_found : (these found : Bases) → Some these ≡ Some found → these ≡ found
 same_found these found e = cc
 
--- what is placed is one entry more at most
+-- placing a section adds at most one entry to the bases
 one_placed : (bases : Entries) (name : ℕ × ℕ) (next top : ℕ) (found : Bases)
     → Some (record { bases = insert_entry is_same_name bases name next; top = top }) ≡ Some found
     → length found.bases ≤ length bases + 1
@@ -85,7 +85,7 @@ bases_few parts plan bottom p m =
 
 -- ---- the tables of a plan
 
--- what is kept from parts, and what it means, for the tables that a plan has
+-- if parts have no fault, the tables of their plan are bounded by the parts, and mean what the definitions say about them
 gathered_kept : (bottom : ℕ) (parts : List Part) (plan : PlanTables) → first_fault [] parts ≡ None
     → IsPlan bottom parts plan → Tables parts plan.gathered × Means bottom parts plan.gathered
 gathered_kept bottom parts plan n p =

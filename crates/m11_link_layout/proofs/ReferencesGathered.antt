@@ -20,12 +20,12 @@ use Rattle.m11_link_layout.proofs.Reporting.{names_more, reported_more}
 abbrev References : Type 0
 References = List ((ℕ × ℕ) × Bool)
 
--- what is found of a name in these references
+-- whether a name has a strong reference among these; None if it has no reference
 abbrev pub strong_in : ℕ × ℕ → List ((ℕ × ℕ) × Bool) → Option Bool
 strong_in name references =
     if list_any (is_same_name name) (keys_of references) then Some (list_any (is_strong_to name) references) else None
 
--- this table is of these references
+-- the table has each name of these references once, with whether it has a strong reference
 pub record TableOf (references table : List ((ℕ × ℕ) × Bool)) : Type 0 where
   pub names : keys_of table ≡ distinct (keys_of references)
   pub apart : Apart is_same_name (keys_of table)

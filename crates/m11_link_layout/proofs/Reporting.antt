@@ -1,4 +1,4 @@
--- What parts say, after one more.
+-- What parts report, after one more part.
 use Rattle.std.proofs.Common.{◌≡◌, ℕ, List, [], ◌∷◌, ◌++◌, append-nil, Option, Some, None, refl, sym, ap, ◌∙◌}
 use Rattle.std.specs.List.{cons_option}
 use Rattle.std.specs.Map.{keys_of}
@@ -31,7 +31,7 @@ module _ {X : Type 0} (report : List Part → Part → Option X) where
       → reported_after report [] (before ++ part ∷ []) ≡ reported_after report [] before ++ cons_option (report before part) []
   reported_more before part = after_more [] before part
 
--- names of pairs, each once
+-- the distinct names after one more name are those so far, with this name inserted
 distinct_more : (seen names : List (ℕ × ℕ)) (name : ℕ × ℕ)
     → distinct_after seen (names ++ name ∷ []) ≡ insert_key is_same_name (distinct_after seen names) name
 distinct_more seen [] name = refl

@@ -27,7 +27,7 @@ use Rattle.m11_link_layout.proofs.Keeping.{relocated_keeps, symbol_keeps}
 use Rattle.m11_link_layout.proofs.Sizing.{attributes_found, total_entered, total_from, total_in, total_kept, total_of, totals_in}
 use Rattle.m11_link_layout.proofs.Walking.{walked}
 
--- these sections, whose names stand once, are those of the parts
+-- these sections, whose names are distinct, are those of the parts
 pub record SectionsOf (before : List Part) (sections : List ((ℕ × ℕ) × Total)) : Type 0 where
   pub names : keys_of sections ≡ (known_of before).sections
   pub apart : Apart is_same_name (keys_of sections)
@@ -114,7 +114,7 @@ pub sections_none : SectionsOf [] nothing_gathered.sections
 unfolding known_of section_names sections_in distinct sizes_of
 sections_none = record { names = refl; apart = tt; totals = λ name. refl }
 
--- ---- the list of them
+-- ---- the list of sections
 
 there : (parts : List Part) (name : ℕ × ℕ) (found : Option ℕ) → attributes_found parts name ≡ found
     → is_some (total_from found (sizes_of parts name)) ≡ true
@@ -144,7 +144,7 @@ sections_are parts sections s =
     (λ name t. is_there parts sections name s t)
     ∙ ap (λ names. map (λ name. (name, total_in parts name)) names) s.names
 
--- what is gathered from parts without a fault
+-- the sections gathered from parts without a fault are those of the parts
 pub sections_gathered : (bottom : ℕ) (parts : List Part) → first_fault [] parts ≡ None
     → SectionsOf parts (gathered_after_all bottom nothing_gathered parts).sections
 sections_gathered bottom parts n =

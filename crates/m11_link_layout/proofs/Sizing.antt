@@ -91,12 +91,12 @@ attributes_found parts name = lookup (is_same_name name) (filter_map attributes_
 abbrev pub total_of : List Part → ℕ × ℕ → Option Total
 total_of parts name = total_from (attributes_found parts name) (sizes_of parts name)
 
--- the same of a section that is entered
+-- the total of a section that is entered
 abbrev pub total_in : List Part → ℕ × ℕ → Total
 total_in parts name =
     record { attributes = flags_of (first_attributes parts name); size = min size_cap (section_size parts name) }
 
--- and of all sections, in order of first appearance
+-- the totals of all sections, in the order of first entries
 abbrev pub totals_in : List Part → List ((ℕ × ℕ) × Total)
 totals_in parts = map (λ name. (name, total_in parts name)) (section_names parts)
 
@@ -105,7 +105,7 @@ sized : (attributes one other : ℕ) → one ≡ other
     (Some (record { attributes = flags_of attributes; size = other }))
 sized attributes one other e = ap (λ n. Some (record { attributes = flags_of attributes; size = n })) e
 
--- an entry more
+-- the total after a further entry is the total so far with the entry's size joined
 total_joined : (found : Option ℕ) (sizes : List ℕ) (attributes size : ℕ) → (found ≡ None → sizes ≡ [])
     → total_from (option_or found (Some attributes)) (sizes ++ size ∷ [])
     ≡ Some (total_after (total_from found sizes) attributes size)
@@ -177,7 +177,7 @@ pub or_none : {X : Type 0} (found : Option X) → option_or found None ≡ found
 or_none None = refl
 or_none (Some x) = refl
 
--- a part that enters no section
+-- a part that enters no section changes no total
 pub total_kept : (before : List Part) (part : Part) (name : ℕ × ℕ) → filter_map attributes_in (part ∷ []) ≡ []
     → filter_map section_in (part ∷ []) ≡ [] → total_of (before ++ part ∷ []) name ≡ total_of before name
 total_kept before part name e f =
@@ -188,7 +188,7 @@ total_kept before part name e f =
     (sizes_more before part name ∙ ap (λ entered. sizes_of before name ++ filter_map (size_under name) entered) f
     ∙ append-nil (sizes_of before name))
 
--- a part that enters one
+-- a part that enters a section changes only the total of this section
 entered_by : (b : Bool) (before : List Part) (name entered : ℕ × ℕ) (attributes size : ℕ) → is_same_name name entered ≡ b
     → total_from (option_or (attributes_found before name) (cond b (Some attributes) None))
     (sizes_of before name ++ cons_option (if b then Some size else None) [])

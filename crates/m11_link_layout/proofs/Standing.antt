@@ -1,4 +1,4 @@
--- A layout that stands after parts, and after more of them.
+-- The state of a layout after some parts, and after further ones.
 use Rattle.std.proofs.Common.{◌≡◌, ℕ, List, [], ◌∷◌, ◌++◌, map, append-nil, inl, inr, Option, Some, None, Result, Ok, Err, IsErrAnd, refl, sym, subst, ap, ◌∙◌}
 use Rattle.std.specs.Option.{option_or}
 use Rattle.std.proofs.Math.Seq.{append_snoc}
@@ -51,7 +51,7 @@ pub gathered_append : (bottom : ℕ) (g : LayoutTables) (before parts : List Par
 gathered_append bottom g [] parts = refl
 gathered_append bottom g (part ∷ before) parts = gathered_append bottom (gathered_after bottom g part) before parts
 
--- parts were taken and noted
+-- if further parts were accepted and stored, the layout is in the state after all parts
 pub goes_on : (bottom : ℕ) (before parts : List Part) (old new : LayoutState) → LayoutAfter bottom before old
     → AcceptsAfter before new.known parts (Ok tt) → new.gathered ≡ gathered_after_all old.bottom old.gathered parts
     → new.bottom ≡ old.bottom → new.fault ≡ old.fault → LayoutAfter bottom (before ++ parts) new
@@ -70,7 +70,7 @@ goes_on bottom before parts old new s t g b f =
       fault = subst T s.fault f;
     }
 
--- parts were judged and noted
+-- if further parts were judged from what was known and were stored, the layout is in the state after all parts
 pub parts_taken : {seen new : LayoutState} (bottom : ℕ) (before parts : List Part) (old : LayoutState) → seen ≡ old
     → LayoutAfter bottom before old
     → (seen.known ≡ known_of before → AcceptsAfter before new.known parts (Ok tt))
@@ -81,7 +81,7 @@ parts_taken {seen} {new} bottom before parts old is s t g b f =
     let s' = subst P (sym is) s in
     goes_on bottom before parts seen new s' (t s'.known) g b f
 
--- a fault of parts, found by what is known before them
+-- a fault that is found from what is known before some parts is their first fault
 pub fault_found : (before parts : List Part) (old new : RulesState) (broken : ModuleFault) → old ≡ known_of before
     → RulesTake old new parts (Err broken) → FirstFault before parts (of_module broken)
 fault_found before parts old new rule.NoMemory is h = inl (taken_after before old new parts (Err rule.NoMemory) is h)
@@ -111,7 +111,7 @@ fault_reported before parts old new broken state bottom (Err stopped) is h e =
     let P : LinkFault → Type 0 = λ said. FirstFault before parts said in
     subst P (sym e) (fault_found before parts old new broken is h)
 
--- parts were judged, and memory was refused for what they say
+-- if parts have no fault, and memory is refused for the tables, this is a result of accepting them
 pub memory_refused : {seen : LayoutState} (bottom : ℕ) (before parts : List Part) (old state : LayoutState) (new : RulesState)
     (result : Result (Unit {0}) LinkFault) → seen ≡ old → LayoutAfter bottom before old
     → RulesTake seen.known new parts (Ok tt) → IsErrAnd result (λ e. e ≡ NoMemory) → AcceptsParts bottom before state parts result
@@ -134,14 +134,14 @@ no_record rule.TooManyGlobals inner e = cc
 no_record rule.TooManySections inner e = cc
 no_record rule.TooManyModules inner e = cc
 
--- no fault of parts is one of a block that is no record
+-- a result of accepting the parts of a block's record is a result of accepting the block
 of_record : (bottom : ℕ) (before : List Part) (new : LayoutState) (bytes : List ℕ) (result : Result (Unit {0}) LinkFault)
     → AcceptsParts bottom before new (record_parts bytes) result → AcceptsBlock bottom before new bytes result
 of_record bottom before new bytes (Ok done) h = h
 of_record bottom before new bytes (Err (Record inner)) h = absurd (no_record h.0 inner h.2)
 of_record bottom before new bytes (Err stopped) h = h
 
--- a block of these parts
+-- a result of accepting these parts is a result of accepting a block whose record has them
 pub block_taken : (bottom : ℕ) (before parts : List Part) (new : LayoutState) (bytes : List ℕ)
     (result : Result (Unit {0}) LinkFault) → record_parts bytes ≡ parts → AcceptsParts bottom before new parts result
     → AcceptsBlock bottom before new bytes result
@@ -149,31 +149,31 @@ block_taken bottom before parts new bytes result e h =
     let P : List Part → Type 0 = λ these. AcceptsParts bottom before new these result in
     of_record bottom before new bytes result (subst P (sym e) h)
 
--- nothing is noted about a text
+-- a text changes no table
 pub text_noted : (bottom address : ℕ) (bytes : List ℕ) (g : LayoutTables)
     → g ≡ gathered_after_all bottom g (Text address bytes ∷ [])
 unfolding gathered_after
 text_noted bottom address bytes g = refl
 
--- nor of the end of a directory
+-- the end of a directory changes no table
 pub end_of_directory_noted : (bottom : ℕ) (g : LayoutTables) → g ≡ gathered_after_all bottom g (EndOfDirectory ∷ [])
 unfolding gathered_after
 end_of_directory_noted bottom g = refl
 
--- the end of a module is noted
+-- ending a module in the tables is their step for its end
 pub end_of_module_noted : (bottom : ℕ) (g later : LayoutTables) → later ≡ with_end g
     → later ≡ gathered_after_all bottom g (EndOfModule ∷ [])
 unfolding gathered_after
 end_of_module_noted bottom g later e = e
 
--- and so are the entries of a directory record
+-- storing the entries of a directory record is the step of the tables for its parts
 pub directory_noted : (bottom : ℕ) (entries : List GsdEntry) (g later : LayoutTables)
     → later ≡ gathered_after_all bottom g (map (λ entry. Entry entry) entries)
     → later ≡ gathered_after_all bottom g (directory_parts entries)
 unfolding gathered_after
 directory_noted bottom entries g later e = e
 
--- the end of a file was taken
+-- the end of a file changes no table
 nothing_noted : (bottom : ℕ) (g : LayoutTables) → g ≡ gathered_after_all bottom g (EndOfFile ∷ [])
 unfolding gathered_after
 nothing_noted bottom g = refl

@@ -25,7 +25,7 @@ use Rattle.m11_link_layout.proofs.Walking.{walked}
 use Rattle.m11_link_layout.proofs.FewerNames.{Within, distinct_no_more, no_more, among_distinct}
 use Rattle.m11_link_layout.proofs.KnownBounded.{Bounded, bounded_step}
 
--- ---- contributions: one more at most for each entry of a section
+-- ---- contributions: at most one more for each entry of a section
 
 module _ {K V : Type 0} (eq : K → K → Bool) where
   pub one_entry : (es : List (K × V)) (k : K) (v : V) → length (insert_entry eq es k v) ≤ length es + 1
@@ -40,7 +40,7 @@ module _ {K V : Type 0} (eq : K → K → Bool) where
 abbrev contributions_reported : LayoutTables → List ((ℕ × (ℕ × ℕ)) × ℕ)
 contributions_reported g = g.contributions
 
--- a part that leaves them alone
+-- if a part doesn't change the contributions, they stay within the bound
 left_alone : (old new : List ((ℕ × (ℕ × ℕ)) × ℕ)) (entered : List ((ℕ × ℕ) × ℕ)) → new ≡ old
     → length new ≤ length old + length entered
 left_alone old new entered e =
@@ -108,7 +108,7 @@ names_grow before part =
     ∙ true_first (is_among (keys_of (sections_in before)) name)
     (is_among (keys_of (filter_map section_in (part ∷ []))) name) a)
 
--- those of modules that ended, and those of the one that didn't
+-- the section entries are at most one for each module that ended and each section, and those of the current module
 abbrev pub EntersFew : List Part → Type 0
 EntersFew before = length (sections_in before)
     ≤ modules_in before * length (section_names before) + length (sections_in (this_module before))
@@ -161,7 +161,7 @@ few_last total modules names entered total' modules' names' entered' t m n e h =
     by : (a b : ℕ) → a + names ≤ b → total ≤ a + entered → total' ≤ b + entered'
     by a b p h = omega (arith, t, e, p, h)
 
--- a module enters no more sections than there are
+-- the current module has no more section entries than there are sections
 pub entered_few : (before : List Part) → Bounded (known_of before)
     → length (sections_in (this_module before)) ≤ length (section_names before)
 unfolding known_of
@@ -189,7 +189,7 @@ few_step before (Relocated relocation) b h = few_on before (Relocated relocation
 few_step before EndOfModule b h = few_ended before b h
 few_step before EndOfFile b h = few_on before EndOfFile refl h
 
--- ---- weak names stand once
+-- ---- weak names are distinct
 
 abbrev Once : LayoutTables → Type 0
 Once g = Apart is_same_name g.weak
@@ -226,7 +226,7 @@ once_step bottom g (Relocated relocation) d = relocated_once (global_of relocati
 once_step bottom g EndOfModule d = tt
 once_step bottom g EndOfFile d = d
 
--- ---- all of them, part by part
+-- ---- all tables, part by part
 
 pub record Tables (before : List Part) (g : LayoutTables) : Type 0 where
   pub known : Bounded (known_of before)
@@ -293,7 +293,7 @@ more_modules m n h = omega (arith, h)
 pub no_less : (a b c : ℕ) → a ≤ b → b ≤ c → a ≤ c
 no_less a b c h k = omega (arith, h, k)
 
--- distinct names of globals
+-- distinct names among the global names in parts are no more than the parts' distinct global names
 pub few_globals : (parts : List Part) (names : List (ℕ × ℕ)) → Within names (filter_map global_in parts)
     → length (distinct names) ≤ length (global_names parts)
 unfolding global_names

@@ -67,7 +67,7 @@ transfer_entered bottom before g entry part m e k l s c p t =
           ∙ ap (λ these. find (even_under bottom all assumed) these) (sym same);
     }
 
--- ---- what is settled
+-- ---- the transfer address that is settled
 
 absolute_relocated : (before : List Part) (g : LayoutTables) → length g.names ≡ modules_in before
     → SectionsOf before g.sections
@@ -85,7 +85,7 @@ absolute_relocated before g l s c =
 same_number : (a b : ℕ) → nat_eq a b ≡ true → a ≡ b
 same_number a b e = grind (arith, nat_tests)
 
--- if the assumption about `. ABS.` of this module is right, it gives the right answer for each transfer entry
+-- if the assumption about `. ABS.` of this module is right, each transfer entry is relocated under it if and only if it is relocated
 under_settled : (before : List Part) (assumed : Bool) (one : Transfer)
     → assumed ≡ relocated_at before (modules_in before) absolute_name
     → relocated_under before assumed one ≡ relocated_at before one.module_index one.section
@@ -116,7 +116,7 @@ settled_is bottom before g l s c t =
     (transfers_of before) t.known (λ one k. ap (λ b. is_even_after b bottom one.value)
     (under_settled before assumed one is))
 
--- ---- an end
+-- ---- the end of a module
 
 not_equal : (index modules : ℕ) → nat_lt index modules ≡ true → nat_eq index modules ≡ false
 not_equal index modules e = grind (arith, nat_tests)

@@ -34,7 +34,7 @@ even_under bottom before assumed transfer =
 abbrev pub slot : Bool → Option Transfer → Option Transfer → Option Transfer
 slot assumed transfer moved = if assumed then moved else transfer
 
--- under each assumption that may be made, this is the first even one
+-- under each possible assumption, this is the first even transfer address
 pub record TransfersOf (bottom : ℕ) (before : List Part) (transfer moved : Option Transfer) : Type 0 where
   pub known : AllKnown before (transfers_of before)
   pub first : (assumed : Bool) → Possible before assumed
@@ -115,7 +115,7 @@ by_known true false relocatable assumed later k l a = sym (l refl)
 by_known false true relocatable assumed later k l a = refl
 by_known false false relocatable assumed later k l a = absurd (true≢false (sym k))
 
--- whether a transfer entry of this module is relocated: as the attributes of its section say if the module has entered it, and otherwise as
+-- a transfer entry of this module is relocated as the attributes of its section say if the module has entered the section, and otherwise as
 -- assumed
 pub this_under : (before : List Part) (part : Part) (name : ℕ × ℕ) (value : ℕ) (assumed : Bool)
     → modules_in (before ++ part ∷ []) ≡ modules_in before

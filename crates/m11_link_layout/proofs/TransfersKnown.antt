@@ -50,7 +50,7 @@ both_stay before part index name e =
     λ j. is_some (entered_stays before part index name e j) && is_relocatable
     (attributes_stay before part index name e j)
 
--- a part that reports nothing about a module leaves whether its sections are relocated as it was
+-- a part that reports nothing about a module doesn't change whether the module's sections are relocated
 none_comes : (before : List Part) (part : Part) (index : ℕ) (name : ℕ × ℕ) (b : Bool)
     → is_some (entered_at before index name) ≡ b
     → reported_where (nat_eq (modules_in before) index) part ≡ []
@@ -80,7 +80,7 @@ other_relocated before part index name e = none_comes before part index name _ r
 
 -- ---- transfer entries that are known
 
--- an entry of an earlier module, or one of this module that names a section entered in it, or `. ABS.`
+-- whether a transfer entry is in an earlier module, or is in this module and names a section that the module has entered, or `. ABS.`
 abbrev pub known_at : List Part → Transfer → Bool
 known_at before transfer = nat_lt transfer.module_index (modules_in before)
     || (nat_eq transfer.module_index (modules_in before)
@@ -102,7 +102,7 @@ relocated_under before assumed transfer =
 not_now : (index modules : ℕ) → nat_lt index modules ≡ true → nat_eq modules index ≡ false
 not_now index modules e = grind (arith, nat_tests)
 
--- what isn't `. ABS.` of this module stays
+-- unless it names `. ABS.` in this module, a known transfer entry stays relocated or not after one more part
 known_stays : (before : List Part) (part : Part) (transfer : Transfer) (earlier now entered absolute : Bool)
     → nat_lt transfer.module_index (modules_in before) ≡ earlier
     → nat_eq transfer.module_index (modules_in before) ≡ now

@@ -1,4 +1,4 @@
--- Parts that are taken one by one: what holds before them, and is kept by each, holds after all of them.
+-- Parts that are accepted one by one: a property that holds before them, and that each of them keeps, holds after all of them.
 use Rattle.std.proofs.Common.{◌≡◌, ℕ, List, [], ◌∷◌, ◌++◌, append-nil, Option, Some, None, refl, sym, subst}
 use Rattle.std.specs.Option.{option_or}
 use Rattle.std.proofs.Math.Seq.{append_snoc}
@@ -15,7 +15,7 @@ pub rest_none : (first rest : Option ModuleFault) → option_or first rest ≡ N
 rest_none None rest e = e
 rest_none (Some said) rest e = search
 
--- parts without a fault, and what is gathered from them
+-- a property of parts and tables that each part without a fault keeps holds after parts without a fault
 pub walked : (bottom : ℕ) (P : List Part → LayoutTables → Type 0)
     → ((before : List Part) (g : LayoutTables) (part : Part) → fault_of before part ≡ None → P before g
     → P (before ++ part ∷ []) (gathered_after bottom g part))
@@ -31,7 +31,7 @@ walked bottom P step before (part ∷ parts) g n p =
     subst Q (append_snoc before part parts)
     (walked bottom P step (before ++ part ∷ []) parts (gathered_after bottom g part) rest (step before g part head p))
 
--- any parts
+-- a property of parts that each further part keeps holds after any parts
 grown_after : (P : List Part → Type 0) → ((before : List Part) (part : Part) → P before → P (before ++ part ∷ []))
     → (before parts : List Part) → P before → P (before ++ parts)
 grown_after P step before [] p = subst P (sym (append-nil before)) p

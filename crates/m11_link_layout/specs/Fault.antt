@@ -57,7 +57,7 @@ of_block block.Device = fault.Read
 of_block block.TooMuch = fault.TooMuch
 of_block inner = fault.Block inner
 
--- a fault of the rules as the fault of a link with the same name
+-- a fault of the rules as a fault of the link, which has the same name
 abbrev pub of_module : ModuleFault → LinkFault
 of_module rule.BadOrder = fault.BadOrder
 of_module rule.NoText = fault.NoText

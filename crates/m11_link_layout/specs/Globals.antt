@@ -102,13 +102,14 @@ weak_in part = None
 unfoldable pub weak_names : List Part → List Name
 weak_names parts = filter_map weak_in parts
 
--- the reference of an entry that defines nothing, and whether it is strong: its bit 001 is clear; None for any other entry
+-- the name that an entry refers to without defining it, and whether the reference is strong, which it is if bit 001 is clear; None
+-- for any other entry
 abbrev pub reference_by : GsdKind → GsdEntry → Option (Name × Bool)
 reference_by GlobalSymbol entry = if defines entry then None else Some (entry.name, not (has_bits 1 entry.flags))
 reference_by kind entry = None
 
--- the reference of a relocation to a global, if it has one, and whether it is strong: no entry before it in its module refers
--- weakly to the name
+-- the name of the global that a relocation refers to, if there is one, and whether the reference is strong, which it is unless an
+-- earlier entry in the same module refers weakly to the name
 abbrev pub relocated_reference : List Name → Option Name → Option (Name × Bool)
 relocated_reference weak None = None
 relocated_reference weak (Some name) = Some (name, not (is_among weak name))

@@ -19,7 +19,7 @@ pub record LayoutState : Type 0 where
   pub bottom : ℕ
   pub fault : Option LinkFault
 
--- the state of a layout after these parts, none of which has a fault
+-- the parts have no fault, and `reading` is the state of a layout after them
 pub record LayoutAfter (bottom : ℕ) (parts : List Part) (reading : LayoutState) : Type 0 where
   pub sound : first_fault [] parts ≡ None
   pub known : reading.known ≡ known_of parts
@@ -27,8 +27,9 @@ pub record LayoutAfter (bottom : ℕ) (parts : List Part) (reading : LayoutState
   pub bottom_is : reading.bottom ≡ bottom
   pub fault : reading.fault ≡ None
 
--- the first fault of parts after others, as a fault of the link; for NoMemory, memory was refused at a part that adds a name, with
--- no fault in it or before it, or it was refused later and no part has a fault
+-- the reported fault is the first fault of these parts, given the parts before them, as a fault of the link; or it is NoMemory, and
+-- either memory was refused at a part that adds a name, and neither that part nor one before it has a fault, or none of these parts
+-- has a fault
 abbrev pub FirstFault : List Part → List Part → LinkFault → Type 0
 FirstFault before parts NoMemory = StopsAtName (first_fault before) parts ⊎ (first_fault before parts ≡ None)
 FirstFault before parts reported =
@@ -39,7 +40,7 @@ abbrev pub AcceptsParts : ℕ → List Part → LayoutState → List Part → Re
 AcceptsParts bottom before new parts (Ok done) = LayoutAfter bottom (before ++ parts) new
 AcceptsParts bottom before new parts (Err fault) = FirstFault before parts fault
 
--- the result for a block: its fault if it isn't a valid record, otherwise the result for the record's parts
+-- the result for a block is the block's fault if it isn't a valid record, and otherwise the result for the record's parts
 abbrev pub AcceptsBlock : ℕ → List Part → LayoutState → Bytes → Result (Unit {0}) LinkFault → Type 0
 AcceptsBlock bottom before new bytes (Err (Record fault)) = content_of bytes ≡ Err fault
 AcceptsBlock bottom before new bytes result = AcceptsParts bottom before new (record_parts bytes) result

@@ -30,7 +30,7 @@ module_at parts index = filter_map (part_at index) (indexed 0 parts)
 unfoldable pub modules_before : List Part → ℕ → List Part
 modules_before parts index = filter_map (part_before index) (indexed 0 parts)
 
--- the values that `report` finds in these parts, in order; for each part, `report` is also given all parts before it
+-- the values that `report` yields for these parts, in order; `report` gets each part together with all parts before it
 abbrev pub reported_after : {X : Type 0} → (List Part → Part → Option X) → List Part → List Part → List X
 reported_after report before [] = []
 reported_after report before (part ∷ parts) =

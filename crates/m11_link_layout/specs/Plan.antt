@@ -31,13 +31,13 @@ use Rattle.m11_link_modules.specs.Rules.{fault_of, most_globals, most_modules, m
 abbrev pub address_limit : ℕ
 address_limit = 0o160000
 
--- the bases of sections from an address on, and the address after them
+-- the bases of sections, and the address after the relocatable ones
 pub record Bases : Type 0 where
   pub bases : List (Name × ℕ)
   pub top : ℕ
 
--- the bases after one more section, a relocatable one at the next address, an absolute one at 0; None if a relocatable section ends
--- past the limit
+-- the bases after one more section: a relocatable section is placed at the next address, and an absolute one at 0; None if a relocatable
+-- section ends past the limit
 abbrev pub placed : List (Name × ℕ) → ℕ → Name × Total → Option Bases
 placed bases next section =
     if is_relocatable section.1.attributes.0
@@ -51,14 +51,14 @@ bases_onto bases next [] = Some (record { bases = bases; top = next })
 bases_onto bases next (section ∷ sections) =
     option_and_then (λ following. bases_onto following.bases following.top sections) (placed bases next section)
 
--- a section was placed; or it ends past the limit; or it ends within the limit, and memory was refused for it
+-- a section was placed; or it is relocatable and ends past the limit; or it has a place within the limit, but memory was refused for it
 abbrev pub Places : Option Bases → List (Name × ℕ) → Result ℕ LinkFault → Type 0
 Places placed new (Ok top) = placed ≡ Some (record { bases = new; top = top })
 Places placed new (Err TooLarge) = placed ≡ None
 Places placed new (Err NoMemory) = is_some placed ≡ true
 Places placed new (Err fault) = ⊥
 
--- memory was refused for one of these sections, and no section up to it ends past the limit
+-- memory was refused for one of these sections or later, and neither that section nor one before it ends past the limit
 pub record StopsAtSection (bases : List (Name × ℕ)) (next : ℕ) (sections : List (Name × Total)) : Type 0 where
   pub before : List (Name × Total)
   pub section : Name × Total
@@ -66,8 +66,8 @@ pub record StopsAtSection (bases : List (Name × ℕ)) (next : ℕ) (sections : 
   pub split : sections ≡ before ++ section ∷ left
   pub fits : is_some (bases_onto bases next (before ++ section ∷ [])) ≡ true
 
--- sections were placed, or one ends past the limit; or memory was refused for one of them, and no section up to it ends past the
--- limit
+-- sections were placed, or a relocatable one ends past the limit; or memory was refused for a section, and neither that section nor one
+-- before it ends past the limit
 abbrev pub PlacesAll : List (Name × ℕ) → ℕ → List (Name × Total) → List (Name × ℕ) → Result ℕ LinkFault → Type 0
 PlacesAll bases next sections new (Ok top) = bases_onto bases next sections ≡ Some (record { bases = new; top = top })
 PlacesAll bases next sections new (Err TooLarge) = bases_onto bases next sections ≡ None
@@ -117,7 +117,7 @@ defined_value plan (Some definition) = Some (value_at plan definition.module_ind
 abbrev pub planned_value : PlanTables → Name → Option ℕ
 planned_value plan name = defined_value plan (lookup (is_same_name name) plan.gathered.definitions)
 
--- the transfer address; 1, which starts no program, if no module has an even one
+-- the address in a transfer entry, modulo octal 200000; 1, which starts no program, if there is no entry
 abbrev pub transfer_at : PlanTables → Option Transfer → ℕ
 transfer_at plan None = 1
 transfer_at plan (Some transfer) =
@@ -154,7 +154,7 @@ planned_sections plan = map (section_planned plan) plan.gathered.sections
 abbrev pub Agrees : List ℕ → List ℕ → Type 0
 Agrees some all = (index value : ℕ) → slice_get some index ≡ Some value → slice_get all index ≡ Some value
 
--- the lists of bases and of values in a plan; either may be shorter than its table
+-- these are the first bases of contributions and the first values of globals in a plan; either list may be shorter than its table
 pub record Lists (plan : PlanTables) (bases values : List ℕ) : Type 0 where
   pub bases_agree : Agrees bases (contribution_bases plan)
   pub values_agree : Agrees values (definition_values plan)
@@ -189,15 +189,15 @@ pub record TablesBounded (plan : PlanTables) : Type 0 where
 
 -- ---- the end of the first pass
 
--- a plan that has the tables of all parts, and places their sections from the bottom on
+-- the plan has the tables of all parts, and places the relocatable sections beginning at the bottom
 pub record IsPlan (bottom : ℕ) (parts : List Part) (plan : PlanTables) : Type 0 where
   pub gathered : plan.gathered ≡ gathered_after_all bottom nothing_gathered parts
   pub bases : bases_onto [] bottom plan.gathered.sections ≡ Some (record { bases = plan.bases; top = plan.top })
   pub bottom_is : plan.bottom ≡ bottom
 
--- a plan that agrees with the definitions about all parts, of which no relocatable section ends past octal 160000: it has the bases
--- of contributions, the values of globals and the transfer address; the sections, the globals, the definitions and the references
--- in order; the attributes of sections, the names of modules and the limits; and the sizes of its tables are bounded
+-- no relocatable section ends past octal 160000, and the plan agrees with the definitions about all parts: it has the bases of
+-- contributions, the values of globals and the transfer address; the sections, the globals, the definitions and the references in
+-- order; the attributes of sections, the names of modules and the limits; and the sizes of its tables are bounded
 pub record IsPlanOf (bottom : ℕ) (parts : List Part) (plan : PlanTables) : Type 0 where
   pub fits : is_too_large bottom parts ≡ false
   pub bases : (module_index : ℕ) (name : Name)
@@ -215,8 +215,8 @@ pub record IsPlanOf (bottom : ℕ) (parts : List Part) (plan : PlanTables) : Typ
   pub grow : TablesGrow parts plan
   pub bounded : TablesBounded plan
 
--- a plan of the collected tables; or a relocatable section ends past the limit; or memory was refused for a section, and no section
--- up to it ends past the limit
+-- the result is a plan of the collected tables; or a relocatable section ends past the limit; or memory was refused for a section or
+-- later, and neither that section nor one before it ends past the limit
 abbrev pub Plans : ℕ → LayoutTables → Result PlanTables LinkFault → Type 0
 Plans bottom gathered (Ok plan) = (plan.gathered ≡ gathered) × (plan.bottom ≡ bottom)
     × (bases_onto [] bottom gathered.sections ≡ Some (record { bases = plan.bases; top = plan.top }))
@@ -225,7 +225,7 @@ Plans bottom gathered (Err NoMemory) = StopsAtSection [] bottom gathered.section
 Plans bottom gathered (Err fault) = ⊥
 
 -- the result of reading all parts: a plan; or the fault of an end inside a module; or, without that fault, a relocatable section
--- ends past the limit, or memory was refused for a section and no section up to it ends past the limit
+-- ends past the limit, or memory was refused for a section or later and neither that section nor one before it ends past the limit
 abbrev pub LayoutEnds : ℕ → List Part → Result PlanTables LinkFault → Type 0
 LayoutEnds bottom parts (Ok plan) = (fault_of parts EndOfFile ≡ None) × IsPlanOf bottom parts plan
 LayoutEnds bottom parts (Err BadOrder) = fault_of parts EndOfFile ≡ Some rule.BadOrder

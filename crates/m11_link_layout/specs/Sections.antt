@@ -87,13 +87,14 @@ abbrev pub names_before : Name → List Name → List Name
 names_before name [] = []
 names_before name (other ∷ others) = if is_same_name name other then [] else other ∷ names_before name others
 
--- the base of a section: relocatable sections lie from the bottom on, in the order of their first entries; absolute ones at 0
+-- the base of a section: relocatable sections begin at the bottom and follow one another in the order of their first entries;
+-- absolute ones begin at 0
 unfoldable pub section_base : ℕ → List Part → Name → ℕ
 section_base bottom parts name =
     if is_relocatable (first_attributes parts name)
     then bottom + sum_by (room_of parts) (names_before name (section_names parts)) else 0
 
--- the address after the relocatable sections
+-- the address after the last relocatable section; the bottom if there are none
 unfoldable pub top : ℕ → List Part → ℕ
 top bottom parts = bottom + sum_by (room_of parts) (section_names parts)
 
@@ -132,7 +133,7 @@ abbrev pub offset_after : ℕ → List ℕ → ℕ
 offset_after attributes sizes =
     if is_relocatable attributes && not (is_overlaid attributes) then sum (map rounded sizes) else 0
 
--- this base, or 0 for a section that a module doesn't enter
+-- this base, or 0 for a section that the module doesn't enter
 abbrev pub base_entered : Option ℕ → ℕ → ℕ
 base_entered None base = 0
 base_entered (Some size) base = base

@@ -56,7 +56,7 @@ abbrev pub is_concatenated : ℕ → Bool
 is_concatenated attributes = is_relocatable attributes && not (is_overlaid attributes)
 
 -- the size of a section after one more contribution, at most the cap: the sum if contributions are concatenated, otherwise the
--- greater
+-- greater of the two sizes
 abbrev pub joined : ℕ → ℕ → ℕ → ℕ
 joined attributes before size = min size_cap
     (if is_concatenated attributes then min size_cap before + contributed attributes size
@@ -132,7 +132,8 @@ with_relocated (Some name) g = with_reference name (not (is_among g.weak name)) 
 
 -- ---- the transfer address
 
--- whether the address `value` bytes after the base of a module's contribution is even; a relocated base is even if the bottom is
+-- whether the address `value` bytes after the base of a module's contribution is even; a relocated base is even if and only if the
+-- bottom is, and an absolute base is 0
 abbrev pub is_even_after : Bool → ℕ → ℕ → Bool
 is_even_after is_relocated bottom value = if is_relocated then is_even (bottom + value) else is_even value
 
@@ -161,7 +162,7 @@ with_transfer bottom entry g = record g {
       (record { module_index = length g.names; section = entry.name; value = entry.value });
 }
 
--- the first even transfer address, given the sections that the current module has entered, if there is one
+-- the first even transfer address, given the sections that the current module has entered; None if there is no even one
 abbrev pub settled : LayoutTables → Option Transfer
 settled g = if is_relocated (entered_total g absolute_name) false then g.moved else g.transfer
 

@@ -1,5 +1,5 @@
-//! The bases of sections: relocatable ones lie from the bottom on, absolute ones at 0. (MACRO-11 Language Reference Manual, ".PSECT
-//! directive".)
+//! The bases of sections: relocatable ones follow one another from the bottom up, and absolute ones begin at 0. (MACRO-11 Language
+//! Reference Manual, ".PSECT directive".)
 
 ghost use Rattle.std.specs.Prelude.{◌≡◌, ◌+◌, Some, None, nat_lt, if◌then◌else◌};
 ghost use Rattle.m11_link_layout.specs.Plan.{Places, PlacesAll, address_limit, placed};
@@ -54,11 +54,11 @@ fn place(
     }
 }
 
-/// Places all sections, the relocatable ones from the bottom on and the absolute ones at 0. Returns the address after the
-/// relocatable ones.
+/// Places all sections: the relocatable ones one after another from the bottom up, and the absolute ones at 0. Returns the address
+/// after the last relocatable one, or the bottom if there are none.
 ///
-/// Errors: `TooLarge`, if a relocatable section ends past octal 160000; `NoMemory`, if memory is refused for a section and no
-/// section up to it ends past that.
+/// Errors: `TooLarge`, if a relocatable section ends past octal 160000; `NoMemory`, if memory is refused for a section and neither
+/// that section nor one before it ends past octal 160000.
 pub(crate) fn place_all(
     bases: &mut SeededMap<Name, u16>,
     bottom: u16,

@@ -45,7 +45,7 @@ impl Model for Layout {
 }
 
 impl Layout {
-    /// A layout that has accepted no block. Relocatable sections will lie from `bottom` on, which may be any address.
+    /// A layout that has accepted no block. Relocatable sections will begin at `bottom`, which may be any address.
     pub fn new(alloc: Global, bottom: u16) -> Layout
         ensures { LayoutAfter bottom [] result }
     {
@@ -68,7 +68,8 @@ impl Layout {
     /// Accepts one block.
     ///
     /// Errors: `Record`, if the block isn't a valid record; otherwise the first fault of its parts, in their order; `NoMemory`, if
-    /// memory is refused for a part, and neither it nor a part before it has a fault. After an error, every call returns it again.
+    /// memory is refused for a part, and neither that part nor one before it has a fault. After an error, every call returns it
+    /// again.
     pub fn block(&mut self, block: &Block) -> Result<(), LinkFault>
         ensures takes { (bottom : ℕ) (before : List Part) → LayoutAfter bottom before self.old
             → AcceptsBlock bottom before self.new block.now.items result }
@@ -98,8 +99,8 @@ impl Layout {
     /// Ends the first pass, and returns its results as a plan for the second.
     ///
     /// Errors, in this order: an earlier one; `BadOrder` inside a module; `TooLarge`, if a relocatable section ends past octal
-    /// 160000. `NoMemory`, if memory is refused for a section and no section up to it ends past octal 160000, or if memory is refused
-    /// for the lists of bases and values.
+    /// 160000. `NoMemory`, if memory is refused for a section and neither that section nor one before it ends past octal 160000, or
+    /// if memory is refused for the lists of bases and values.
     pub fn end(self) -> Result<Plan, LinkFault>
         ensures ends { (bottom : ℕ) (before : List Part) → LayoutAfter bottom before self → LayoutEnds bottom before result }
         ensures again { (fault : LinkFault) → self.fault ≡ Some fault → result ≡ Err fault }
@@ -222,8 +223,8 @@ impl Layout {
         Ok(())
     }
 
-    // Checks that a relocation record may come here, then reads, checks and stores its relocations. The inner result has the fault
-    // of a part, and is returned only if all relocations of the record are valid.
+    // Checks that a relocation record may come here, then reads and checks its relocations, and stores their references to globals.
+    // The outer error is a fault of the record itself, which takes precedence; the inner error is the first fault of a part.
     #[tactic(auto, using(m11_link_modules::proofs::Taking::taken_then, m11_link_modules::proofs::Taking::refused_first), unfolding(crate::specs::Tables::gathered_after))]
     fn add_relocations(
         &mut self,
@@ -244,8 +245,8 @@ impl Layout {
         }
     }
 
-    // Reads, checks and stores the relocations of a record one by one, up to the first fault; after the fault of a part the
-    // remaining ones are still read. Returns the results of `add_relocations`.
+    // Reads the relocations of a record one by one, checks each and stores its reference to a global, up to the first fault. After
+    // the fault of a part the remaining relocations are still read. The outer and the inner error are those of `add_relocations`.
     fn add_each_relocation(
         &mut self,
         unread: &mut UnreadRelocations<'_>,

@@ -16,7 +16,7 @@ use std::alloc::Global;
 use std::marker::Model;
 
 /// The bases of sections and of modules' contributions to them, the values of globals, the transfer address and the limits; and
-/// what the map and the messages show besides: attributes of sections, references to globals and names of modules.
+/// what else the map and the messages show: attributes of sections, references to globals and names of modules.
 #[derive(Drop)]
 pub struct Plan {
     pub(crate) tables: Tables,

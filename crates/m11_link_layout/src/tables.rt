@@ -75,7 +75,7 @@ fn is_concatenated(attributes: SectionFlags) -> bool
 }
 
 // The size of a section after one more contribution, at most octal 200000: the sum if contributions are concatenated, otherwise the
-// greater.
+// greater of the two sizes.
 fn joined(attributes: SectionFlags, before: u32, size: u16) -> u32
     ensures { result ≡ joined attributes.0 before size }
 {
@@ -88,7 +88,7 @@ fn joined(attributes: SectionFlags, before: u32, size: u16) -> u32
     joined.min(SIZE_CAP)
 }
 
-// The limit of sizes, past all addresses: a relocatable section of this size is too large from any bottom.
+// The limit of sizes, past all addresses: a relocatable section of this size is too large, whatever the bottom is.
 const SIZE_CAP: u32 = 0o200000;
 
 // A section after one more entry for it. It keeps the attributes of its first entry.
@@ -123,8 +123,8 @@ fn next_offset(found: Option<Total>) -> u32
     }
 }
 
-// Whether the address `value` bytes after the base of a contribution is even. A relocated base is even if the bottom is; an
-// absolute one is 0.
+// Whether the address `value` bytes after the base of a contribution is even. A relocated base is even if and only if the bottom
+// is, and an absolute base is 0.
 fn is_even_after(is_relocated: bool, bottom: u16, value: u16) -> bool
     ensures { result ≡ is_even_after is_relocated bottom value }
 {
@@ -362,7 +362,7 @@ impl Tables {
         Ok(())
     }
 
-    // Stores a definition of a global, unless it has one already.
+    // Stores a definition of a global, unless the global has one already.
     fn add_definition(&mut self, entry: &GsdEntry) -> Result<(), AllocError>
         ensures { TablesKeep self.new (with_definition entry.now self.old) result }
     {
@@ -379,7 +379,7 @@ impl Tables {
         }
     }
 
-    // Stores the weak reference of an entry. Later relocations of this module that refer to the name are then weak too.
+    // Stores the weak reference of an entry. Later relocations of this module then refer to the name weakly too.
     fn add_weak(&mut self, name: Name) -> Result<(), AllocError>
         ensures { TablesKeep self.new (with_weak name self.old) result }
     {
@@ -492,7 +492,7 @@ impl Tables {
         }
     }
 
-    // Stores a relocation's reference to a global, which is weak if an entry of this module refers to it weakly.
+    // Stores a relocation's reference to a global. The reference is weak if an earlier entry of this module refers to the name weakly.
     fn add_relocated(&mut self, name: Name) -> Result<(), AllocError>
         ensures { TablesKeep self.new (with_relocated (Some name) self.old) result }
     {

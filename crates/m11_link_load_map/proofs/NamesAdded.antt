@@ -12,7 +12,7 @@ use Rattle.m11_base_disassembly.specs.declared.map_fault.MapFault.{MapFault}
 use Rattle.m11_link_load_map.specs.declared.name_files.NoNames.{NoNames}
 use Rattle.m11_link_load_map.specs.declared.name_files.NoNames.TheVariants.{NotOpened, InFile}
 
--- a list that grew twice
+-- if a list was extended twice, it was extended by both additions together
 longer : {X : Type 0} (old middle new first more : List X) → middle ≡ old ++ first → new ≡ middle ++ more
     → new ≡ old ++ (first ++ more)
 longer old middle new first more a b = b ∙ ap (λ xs. xs ++ more) a ∙ append_assoc old first more
@@ -21,7 +21,7 @@ abbrev pub texts : List (Bor (List ℕ)) → List (List ℕ)
 texts paths = map (λ path. path.now) paths
 
 module _ {I : Type 0} (text : I → Option Text) where
-  -- files, and more files
+  -- if the files at some paths and those at others are open, those at all these paths are
   are_more : (files : Option Files) (paths others : List (List ℕ)) (inputs more : List I) → AreFiles text files paths inputs
       → AreFiles text files others more → AreFiles text files (paths ++ others) (inputs ++ more)
   are_more files [] others [] more h k = k
@@ -29,7 +29,7 @@ module _ {I : Type 0} (text : I → Option Text) where
   are_more files (path ∷ paths) others [] more h k = absurd h
   are_more files (path ∷ paths) others (input ∷ inputs) more h k = (h.0, are_more files paths others inputs more h.1 k)
 
-  -- the names of one file were added, and then those of others, or there are none
+  -- if one file was added, and then others were added or gave no names, the same holds of all of them together
   pub more_added : (bottom : ℕ) (files : Option Files) (path : List ℕ) (paths : List (List ℕ)) (old middle new : List Symbol)
       (held between held' : List (List ℕ)) (opened open' opened' : List I) (done : Unit {0}) (result : Result (Unit {0}) NoNames)
       → AddsFile text bottom files path old held opened middle between open' (Ok done)
@@ -48,7 +48,7 @@ module _ {I : Type 0} (text : I → Option Text) where
   more_added bottom files path paths old middle new held between held' opened open' opened' done (Err none) h s =
       inr ((h.0, h.1, h.3), s)
 
-  -- the same, if the file and the others are those of a list of paths
+  -- the same holds if the file is at the first of these paths, and the others are at the rest
   pub first_added : (bottom : ℕ) (files middle_files : Option Files) (paths : List (Bor (List ℕ))) (path other : Bor (List ℕ))
       (old middle new : List Symbol) (held between held' : List (List ℕ)) (opened open' opened' : List I) (done : Unit {0})
       (result : Result (Unit {0}) NoNames) → 1 ≤ length paths → get_or paths 0 other ≡ path
@@ -64,14 +64,14 @@ module _ {I : Type 0} (text : I → Option Text) where
       more_added bottom files item.now (texts rest) old middle new held between held' opened open' opened' done result
       (subst R (sym first) h) (subst P same (subst Q (take_all (length (item ∷ rest) - 1) rest (omega arith)) s))
 
-  -- there are no files
+  -- without paths, nothing is added
   pub none_added : (bottom : ℕ) (files : Option Files) (paths : List (Bor (List ℕ))) (old : List Symbol) (held : List (List ℕ))
       (opened : List I) → length paths < 1 → AddsFiles text bottom files (texts paths) old held opened old held opened (Ok tt)
   none_added bottom files [] old held opened few =
       ([], [], [], (refl, refl), tt, sym (append-nil old), sym (append-nil held), sym (append-nil opened))
   none_added bottom files (path ∷ paths) old held opened few = absurd (omega (arith, few))
 
-  -- a file is an object, which was opened again
+  -- if a file is an object, what opening it again adds is what the file adds
   pub object_added : (bottom : ℕ) (files middle_files : Option Files) (path bytes : List ℕ) (old new : List Symbol)
       (held held' : List (List ℕ)) (opened opened' : List I) (result : Result (Unit {0}) NoNames) → HasFile files path bytes
       → is_object bytes ≡ true → middle_files ≡ files
@@ -98,7 +98,7 @@ module _ {I : Type 0} (text : I → Option Text) where
   object_added bottom files middle_files path bytes old new held held' opened opened' (Err (InFile named fault)) has is same h =
       let P : MapFault → Type 0 = λ f. LacksNames bottom files path f in (h.0, subst P (sym h.1) tt)
 
-  -- a file has names, and is no object
+  -- if a file isn't an object, and its names were added, the file was added
   pub text_added : (bottom : ℕ) (files : Option Files) (path bytes : List ℕ) (old new more : List Symbol)
       (held : List (List ℕ)) (opened : List I) → HasFile files path bytes → is_object bytes ≡ false
       → symbols_of bottom bytes ≡ Ok more → new ≡ old ++ more
@@ -119,7 +119,7 @@ module _ {I : Type 0} (text : I → Option Text) where
     sym (append-nil opened),
   )
 
--- all files give names, but a link of the objects among them is refused
+-- if all files give names, but a link of the objects among them is refused, there are no names
 pub none_named : {A I : Type 0} (text : I → Option Text) (faults : I → ℕ) (bottom : ℕ) (files : Option Files) (paths : List (List ℕ))
     (more : List Symbol) (objects own : List (List ℕ)) (inputs opened : List I) (result : Result A NoNames)
     → GiveAll bottom files paths more own → AreFiles text files own opened → objects ≡ own → inputs ≡ opened

@@ -1,4 +1,4 @@
--- What is noted about parts.
+-- The facts that are recorded about parts.
 use Rattle.std.proofs.Common.{◌≡◌, ◌∙◌, ℕ, ◌+◌, ◌≤◌, List, [], ◌∷◌, ◌++◌, append-nil, append_assoc, length, drop, map, slice_get, Some, Result, Ok, Err, refl, sym, ap}
 use Rattle.std.specs.List.{filter_map}
 use Rattle.std.specs.Prelude.{OnOk}
@@ -25,7 +25,7 @@ pub noted_end : (parts : List Part) → noted_of (parts ++ EndOfFile ∷ []) ≡
 unfolding noted_of
 noted_end parts = filter_map-append noted_in parts (EndOfFile ∷ []) ∙ append-nil (filter_map noted_in parts)
 
--- nothing is noted about relocations
+-- no fact is recorded about relocations
 none_relocated : (relocations : List Relocation) → filter_map noted_in (map (λ relocation. Relocated relocation) relocations) ≡ []
 none_relocated [] = refl
 none_relocated (relocation ∷ relocations) = none_relocated relocations
@@ -92,7 +92,7 @@ of_directory old new bytes unread entries e is noted =
     noted ∙ ap (λ (these : List MapFact). old ++ these)
     (sym (noted_content bytes (Ok (records.Gsd entries)) (unread_entries bytes unread (Ok entries) e is)))
 
--- if noting a directory succeeds, its entries are noted after the old facts
+-- if recording the facts of a directory succeeds, those of its entries come after the old facts
 pub of_directory_noted : {A E : Type 0} (result : Result A E) (old new : List MapFact) (bytes unread : List ℕ) (entries : List GsdEntry)
     → content_of bytes ≡ unread_directory unread → entries_of unread ≡ Ok entries
     → OnOk result (new ≡ old ++ noted_of (map (λ entry. Entry entry) entries))

@@ -1,4 +1,4 @@
--- Two lists of globals that rise, and have the same globals at each address in the same order, are one.
+-- Two lists of globals in the order of their values, with the same globals in the same order at each address, are equal.
 use Rattle.std.proofs.Common.{◌≡◌, ◌∙◌, ℕ, zero, suc, ◌<◌, ◌≤◌, nat_eq, Bool, true, false, if◌then◌else◌, List, [], ◌∷◌, length, get_or, refl, sym, ap, subst, arith}
 use Rattle.std.specs.List.{filter}
 use Rattle.std.specs.List.Sorted.{IsNonDecreasingBy}
@@ -21,7 +21,7 @@ equal a b e = grind (arith, nat_tests)
 itself : (a : ℕ) → nat_eq a a ≡ true
 itself a = grind (arith, nat_tests)
 
--- if some global lies at an address, it stands at an index
+-- one of these globals has this address as its value
 pub record LiesAmong (address : ℕ) (globals : List PlannedGlobal) : Type 0 where
   pub index : ℕ
   pub inside : index < length globals
@@ -53,7 +53,7 @@ first_least address x y xs ys rise e =
     let P : ℕ → Type 0 = λ n. x.value ≤ n in
     subst P (among.value x) (rise zero among.index x (omega arith) among.inside)
 
--- the first global lies at its own address
+-- the globals at the first global's address begin with the first global
 first_kept : (x : PlannedGlobal) (xs : List PlannedGlobal) (address : ℕ) → x.value ≡ address
     → filter (lies_at address) (x ∷ xs) ≡ x ∷ filter (lies_at address) xs
 first_kept x xs address e =

@@ -1,4 +1,4 @@
--- The loops of the reading, beside those of a link's first pass.
+-- The loops that read objects and record facts, by means of those of a link's first pass.
 use Rattle.std.proofs.Common.{◌≡◌, ◌∙◌, ℕ, ◌+◌, ◌<◌, ◌≤◌, ◌⊎◌, Bool, if◌then◌else◌, List, [], ◌∷◌, ◌++◌, length, get_or, set, Option, Some, None, Result, Ok, Err, refl, sym, ap, subst, inl, inr}
 use Rattle.m11_base.specs.Feed.{Text}
 use Rattle.m11_base.proofs.FeedsRead.{all_read, begin, read_more}
@@ -29,7 +29,7 @@ use Rattle.m11_link_load_map.proofs.StoppedIn.{stops_in}
 
 -- ---- one block
 
--- a block that a layout took, and that was noted
+-- if a layout accepted a block, and its facts were recorded, this is the state after the block
 pub block_noted : (bottom : ℕ) (before : List Part) (bytes : List ℕ) (layout layout' : LayoutState) (noted noted' : List MapFact)
     → NotedAfter bottom before layout noted → LayoutAfter bottom (before ++ record_parts bytes) layout'
     → noted' ≡ noted ++ noted_of (record_parts bytes)
@@ -40,7 +40,7 @@ block_noted bottom before bytes layout layout' noted noted' s laid e = record {
       ∙ sym (noted-append before (record_parts bytes));
 }
 
--- a block that a layout took, where memory was refused for what is noted
+-- if a layout accepted a block, but memory was refused for its facts, the block may be refused with `NoMemory`
 pub block_lost : (bottom : ℕ) (before : List Part) (bytes : List ℕ) (layout : LayoutState)
     → LayoutAfter bottom (before ++ record_parts bytes) layout
     → AcceptsBlock bottom before layout bytes (Err fault.NoMemory)
@@ -48,7 +48,7 @@ block_lost bottom before bytes layout s = inr (rest_sound [] before (record_part
 
 -- ---- one object
 
--- the feed has come after blocks, whose parts were taken and noted
+-- blocks were read from the feed, their parts were accepted, and their facts were recorded
 pub record Seen (text text' : Option Text) (faults faults' room bottom : ℕ) (before : List Part) (layout : LayoutState)
     (noted : List MapFact) : Type 0 where
   pub laid : Laid text text' faults faults' room bottom before layout
@@ -156,7 +156,7 @@ module _ {F : Type 0} (text : F → Option Text) (faults : F → ℕ) where
     noted-are = l.noted-are;
   }
 
-  -- one more object
+  -- if the object at the index was accepted, the objects before the next index were
   pub object_seen : (initial now : List F) (index bottom : ℕ) (before : List Part) (layout new : LayoutState) (noted noted' : List MapFact)
       (l : SeenAll text faults initial now index bottom before layout noted)
       (inside : index < length now) (d x z : F) (x-is : x ≡ get_or now index d)
@@ -177,7 +177,7 @@ module _ {F : Type 0} (text : F → Option Text) (faults : F → ℕ) where
     noted-are = h.3.noted-are;
   }
 
-  -- an object at which reading stops
+  -- if reading the object at the index stops, the result has its fault and the index
   pub object_lost : (initial now : List F) (index bottom : ℕ) (before : List Part) (layout new : LayoutState) (noted noted' : List MapFact)
       (l : SeenAll text faults initial now index bottom before layout noted)
       (inside : index < length now) (d x z : F) (x-is : x ≡ get_or now index d) (count : ℕ) (stopped : LinkFault) → count ≡ index

@@ -51,7 +51,7 @@ pub each_shown : (parts : List Part) (index : ℕ)
 unfolding contributions_of module_at sections_in
 each_shown parts index = shown_among index (indexed 0 parts)
 
--- ---- what is noted
+-- ---- the recorded facts
 
 entry_from : (index : ℕ) (kind : GsdKind) (entry : GsdEntry) (parts : List Part) (all : List Contribution)
     → contributions_from index (filter_map noted_in parts) ≡ all
@@ -84,7 +84,7 @@ pub noted_contributions : (parts : List Part) → contributions_from 0 (noted_of
 unfolding noted_of contributions_of
 noted_contributions parts = contributions_are 0 parts
 
--- ---- globals of one value
+-- ---- globals of equal value
 
 tied : (a b : ℕ) → (not (is_lt (nat_cmp a b)) && not (is_lt (nat_cmp b a))) ≡ nat_eq b a
 tied a b = grind (arith, nat_tests)

@@ -1,4 +1,4 @@
--- The object at which reading stops, among those that were read before it.
+-- The object at which reading stops, after those that were read before it.
 use Rattle.std.proofs.Common.{◌≡◌, ◌∙◌, ℕ, zero, suc, ◌<◌, List, [], ◌∷◌, ◌++◌, length, get_or, set, Option, Err, refl, sym, ap, arith}
 use Rattle.m11_base.specs.Feed.{Text}
 use Rattle.m11_link_modules.specs.Parts.{Part}
@@ -9,7 +9,7 @@ use Rattle.m11_link.specs.FirstPass.{LaysOutObject}
 use Rattle.m11_link.proofs.FirstRead.{LaidAll}
 use Rattle.m11_link_load_map.specs.Stopping.{StopsIn}
 
--- ---- a list of two parts, at the index of the second one
+-- ---- a list of two parts, at the index where the second one begins
 
 split_part : {F : Type 0} (done left : List F) (index : ℕ) → length done ≡ index → index < length (done ++ left)
     → (x : F) × (rest : List F) × (left ≡ x ∷ rest)
@@ -26,7 +26,7 @@ set_part : {F : Type 0} (done rest : List F) (x new : F) → set (done ++ x ∷ 
 set_part [] rest x new = refl
 set_part {F = F} (y ∷ done) rest x new = ap (λ (t : List F). y ∷ t) (set_part done rest x new)
 
--- ---- the object there
+-- ---- the object at that index
 
 module _ {F : Type 0} (text : F → Option Text) (faults : F → ℕ) (initial now : List F) (index bottom : ℕ) (before : List Part)
     (layout new : LayoutState) (l : LaidAll text faults initial now index bottom before layout) (inside : index < length now)

@@ -1,4 +1,4 @@
--- Texts that are put line by line, and maps by a plan.
+-- Texts that are built line by line, and maps made from a plan.
 use Rattle.std.proofs.Common.{◌≡◌, ◌∙◌, ℕ, ◌+◌, ◌<◌, ◌≤◌, List, [], ◌∷◌, ◌++◌, append-nil, append_assoc, length, drop, get_or, slice_get, Some, refl, sym, ap, subst}
 use Rattle.std.specs.List.{flat_map}
 use Rattle.std.proofs.lemmas.List.{drop_all, drop_more}
@@ -21,11 +21,11 @@ flat_append show (x ∷ xs) ys =
     ap (λ (these : List ℕ). show x ++ these) (flat_append show xs ys)
     ∙ sym (append_assoc (show x) (flat_map show xs) (flat_map show ys))
 
--- the text so far, and what is left to show, are all that is to be shown
+-- the text so far, and the items left to show, make the same text as the first text and all items
 abbrev pub Leads : {X : Type 0} → (X → List ℕ) → List ℕ → List X → List ℕ → List X → Type 0
 Leads show first all now left = now ++ flat_map show left ≡ first ++ flat_map show all
 
--- some more were shown
+-- this still holds after some more items are shown
 pub more_shown : {X : Type 0} (show : X → List ℕ) (first : List ℕ) (all : List X) (now later : List ℕ) (left one rest : List X)
     → left ≡ one ++ rest → Leads show first all now left → later ≡ now ++ flat_map show one → Leads show first all later rest
 more_shown {X} show first all now later left one rest split leads e =
@@ -48,18 +48,18 @@ item_shown {X} show first all now later line index x inside is leads put shown =
     more_shown show first all now later (drop index all) (x ∷ []) (drop (index + 1) all) split leads
     (put ∙ ap (λ (text : List ℕ). now ++ text) (shown ∙ sym (append-nil (show x))))
 
--- the first piece
+-- if a first piece is added to an empty text, the text is that piece
 pub first_put : (old new bytes line : List ℕ) → old ≡ [] → new ≡ old ++ bytes → bytes ≡ line → new ≡ line
 first_put old new bytes line e put is = put ∙ ap (λ (text : List ℕ). text ++ bytes) e ∙ is
 
--- five pieces, one after another
+-- if five pieces are added one after another, the text consists of them in order
 pub five_put : (a b c d e one two three four five : List ℕ) → one ≡ a → two ≡ one ++ b → three ≡ two ++ c → four ≡ three ++ d
     → five ≡ four ++ e → five ≡ (((a ++ b) ++ c) ++ d) ++ e
 five_put a b c d e one two three four five p q r s t =
     t ∙ ap (λ (text : List ℕ). text ++ e) (s ∙ ap (λ (text : List ℕ). text ++ d) (r ∙ ap (λ (text : List ℕ). text ++ c)
     (q ∙ ap (λ (text : List ℕ). text ++ b) p)))
 
--- ---- contributions that are noted
+-- ---- recorded contributions
 
 one_from : (index : ℕ) (item : MapFact) (rest : List MapFact)
     → contributions_from index (item ∷ rest) ≡ contributions_from index (item ∷ []) ++ contributions_from (index_after index item) rest
@@ -76,7 +76,7 @@ noted_left index at noted item e =
 pub noted_over : (index at : ℕ) (noted : List MapFact) → length noted ≤ at → contributions_from index (drop at noted) ≡ []
 noted_over index at noted le = ap (λ (these : List MapFact). contributions_from index these) (drop_all at noted le)
 
--- ---- the map by a plan is that by the definitions
+-- ---- a map made from a plan is the load map of the definition
 
 pub map_is : (bottom : ℕ) (parts : List Part) (plan : PlanTables) (noted : List MapFact) (text : List ℕ)
     → IsPlanOf bottom parts plan → noted ≡ noted_of parts → IsMapBy plan noted text → IsLoadMap bottom parts text
@@ -89,7 +89,7 @@ map_is bottom parts plan noted text p n m =
           (contributions j) m.0),
     )
 
--- ---- lists that are made item by item
+-- ---- lists that are built item by item
 
 pub one_listed : {X : Type 0} (all now later : List X) (index : ℕ) (x : X) → slice_get all index ≡ Some x
     → now ++ drop index all ≡ all → later ≡ now ++ x ∷ [] → later ++ drop (index + 1) all ≡ all

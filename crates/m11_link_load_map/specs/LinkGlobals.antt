@@ -14,7 +14,8 @@ use Rattle.m11_link_load_map.specs.declared.fault.ObjectsFault.{ObjectsFault}
 abbrev pub symbol_of : PlannedGlobal → Symbol
 symbol_of global = record { name = global.name; value = global.value }
 
--- a link accepts the parts of the objects that the feeds yielded, with relocatable sections from the bottom on, and these are its globals
+-- a link accepts the parts of the objects that the feeds yielded, with relocatable sections beginning at `bottom`, and these are its
+-- globals
 abbrev pub HasGlobals : {F : Type 0} → Pass F → ℕ → List Symbol → Type 0
 HasGlobals pass bottom symbols = NoneFailed pass.faults pass.old pass.new
     × (items : List Item) × GiveItems pass.text pass.old items

@@ -19,7 +19,8 @@ use Rattle.m11_link_text.specs.Lines as line
 
 -- ---- contributions
 
--- a contribution, from a section entry: the index of its module, the section, and its size in that module, in bytes
+-- the contribution of a module to a section, from a section entry: the index of the module, the name of the section, and its size in
+-- that module, in bytes
 pub record Contribution : Type 0 where
   pub module_index : ℕ
   pub section : Name
@@ -44,7 +45,7 @@ contribution_in index c = if nat_eq c.module_index index then Some (c.section, c
 abbrev pub lies_at : ℕ → PlannedGlobal → Bool
 lies_at address global = nat_eq global.value address
 
--- the globals in the order of their values; those of equal value keep their order
+-- `order` holds the globals in the order of their values, the lowest first; those of equal value keep their order
 pub record IsByValue (globals order : List PlannedGlobal) : Type 0 where
   pub same : IsPermutation globals order
   pub rise : IsNonDecreasingBy (λ (global : PlannedGlobal). global.value) order
@@ -52,13 +53,13 @@ pub record IsByValue (globals order : List PlannedGlobal) : Type 0 where
 
 -- ---- lines
 
--- the line of a module's contribution to a section: its address and size, the section and the module
+-- the line for a module's contribution to a section: its address and size, the section and the module
 abbrev pub section_line : ℕ → ℕ → Name → Name → Bytes
 section_line base size section module_name =
     line_of (((((((codes "  " ++ octal_text base) ++ 32 ∷ []) ++ octal_text size) ++ 32 ∷ []) ++ name_text section)
     ++ 32 ∷ []) ++ name_text module_name)
 
--- the line of a global: its value, its name, and the first module that defines it
+-- the line for a global: its value, its name, and the first module that defines it
 abbrev pub global_line : ℕ → Name → Name → Bytes
 global_line value name module_name =
     line_of (((((codes "  " ++ octal_text value) ++ 32 ∷ []) ++ name_text name) ++ 32 ∷ []) ++ name_text module_name)
@@ -79,7 +80,7 @@ map_text base module_name bottom top contributions globals =
     (((line.limit_line bottom top ++ codes "SECTIONS\n") ++ flat_map (contribution_line base module_name) contributions)
     ++ codes "GLOBALS\n") ++ flat_map line_of_global globals
 
--- the load map of these parts of objects, with relocatable sections from `bottom` on
+-- the text is the load map of objects with these parts, with relocatable sections beginning at `bottom`
 abbrev pub IsLoadMap : ℕ → List Part → Bytes → Type 0
 IsLoadMap bottom parts text = (order : List PlannedGlobal) × IsByValue (globals_of bottom parts) order
     × (text ≡ map_text (module_base bottom parts) (name_at parts) bottom (top bottom parts) (contributions_of parts) order)

@@ -18,7 +18,7 @@ use Rattle.m11_link_load_map.specs.declared.name_files.NoNames.TheVariants.{NotO
 
 -- ---- one file
 
--- the file at this path has these bytes; or some bytes, if files or texts are unknown
+-- the file at this path has these bytes; they may be any bytes if the files or the file's text are unknown
 abbrev pub HasFile : Option Files → Bytes → Bytes → Type 0
 HasFile files path bytes = (text : Option Text) × Holds files path text × HasBytes text bytes
 
@@ -27,7 +27,8 @@ abbrev pub is_object : Bytes → Bool
 is_object [] = false
 is_object (byte ∷ bytes) = nat_lt byte 2
 
--- the names in a file; those of objects are found together, after all others
+-- the names in a file with these bytes, or the file's fault; none in an object, since the names in all objects are found together,
+-- after all others
 abbrev pub names_in : ℕ → Bytes → Result (List Symbol) MapFault
 names_in bottom bytes = if is_object bytes then Ok [] else symbols_of bottom bytes
 
@@ -35,7 +36,7 @@ names_in bottom bytes = if is_object bytes then Ok [] else symbols_of bottom byt
 abbrev pub object_in : Bytes → Bytes → List Bytes
 object_in path bytes = if is_object bytes then path ∷ [] else []
 
--- these are the names in the file at this path, and the object that it is
+-- these are the names in the file at this path; `objects` holds the path if the file is an object, and otherwise nothing
 abbrev pub Gives : ℕ → Option Files → Bytes → List Symbol → List Bytes → Type 0
 Gives bottom files path symbols objects = (bytes : Bytes) × HasFile files path bytes × (names_in bottom bytes ≡ Ok symbols)
     × (objects ≡ object_in path bytes)
@@ -61,7 +62,7 @@ GiveAll bottom files (path ∷ paths) symbols objects = (first : List Symbol) ×
     × (more : List Symbol) × (others : List Bytes) × Gives bottom files path first own
     × GiveAll bottom files paths more others × (symbols ≡ first ++ more) × (objects ≡ own ++ others)
 
--- why the files at these paths don't all give names: one of them gives none, and those before it give some
+-- why the files at these paths don't all give names: one of them gives none, for this reason, and each one before it gives names
 abbrev pub LackNames : ℕ → Option Files → List Bytes → NoNames → Type 0
 LackNames bottom files [] none = ⊥
 LackNames bottom files (path ∷ paths) none = GivesNone bottom files path none
@@ -108,7 +109,8 @@ module _ {I : Type 0} (text : I → Option Text) (faults : I → ℕ) where
       × GiveAll bottom files paths first objects × AreFiles text files objects inputs
       × WithObjects bottom objects inputs first symbols
 
-  -- why there are no names: a file gives none; or all give some, but a link of the objects among them is refused
+  -- why there are no names: one of the files gives none, for a reason of its own; or each file was read, but a link of the objects
+  -- among them is refused
   abbrev pub NoneNamed : ℕ → Option Files → List Bytes → NoNames → Type 0
   NoneNamed bottom files paths none = LackNames bottom files paths none
       ⊎ ((symbols : List Symbol) × (objects : List Bytes) × (inputs : List I) × GiveAll bottom files paths symbols objects

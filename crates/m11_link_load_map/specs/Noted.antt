@@ -29,7 +29,7 @@ contributions_from index (Section name size ∷ noted) =
     record { module_index = index; section = name; size = size } ∷ contributions_from index noted
 contributions_from index (ModuleEnd ∷ noted) = contributions_from (index + 1) noted
 
--- the index of the module that the fact after this one belongs to
+-- the index of the module that the fact after this one belongs to; this fact belongs to the module with the index `index`
 abbrev pub index_after : ℕ → MapFact → ℕ
 index_after index (Section name size) = index
 index_after index ModuleEnd = index + 1

@@ -24,8 +24,8 @@ abbrev pub NotesBlock : ℕ → List Part → LayoutState → List MapFact → B
 NotesBlock bottom before layout noted bytes (Ok done) = NotedAfter bottom (before ++ record_parts bytes) layout noted
 NotesBlock bottom before layout noted bytes (Err stopped) = AcceptsBlock bottom before layout bytes (Err stopped)
 
--- the items have no fault after the earlier parts, an object may end after all of them, this is then the state of the layout, and
--- the facts of all parts were recorded
+-- the items have no fault after the earlier parts, an object may end after the last item, this is then the state of the layout, and
+-- the facts about all parts were recorded
 pub record ReachesNoted (bottom : ℕ) (before : List Part) (items : List Item) (layout : LayoutState) (noted : List MapFact)
     : Type 0 where
   pub reaches : Reaches bottom before items layout

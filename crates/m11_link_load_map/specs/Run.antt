@@ -30,8 +30,8 @@ abbrev pub MakesMap : {F : Type 0} → Pass F → ℕ → Result Bytes ObjectsFa
 MakesMap pass bottom (Ok text) = Maps pass bottom text
 MakesMap pass bottom (Err stopped) = IsRefused pass bottom stopped
 
--- the output gained the map of the objects; or a link refuses them or memory was refused, and the output is unchanged; or the
--- output failed after part of the map
+-- the output gained the map of the objects; or a link refuses them or memory was refused, and the output is unchanged; or the output
+-- failed after a prefix of the map was written
 abbrev pub LoadMapRuns : {F : Type 0} → Pass F → ℕ → OutputState → OutputState → Result (Unit {0}) LoadMapFault → Type 0
 LoadMapRuns pass bottom out out' (Ok done) =
     (text : Bytes) × Maps pass bottom text × Appends out.text out'.text text × (out'.faults ≡ out.faults)

@@ -10,7 +10,7 @@ use Rattle.m11_link.specs.Objects.{Item, GiveItems, taken}
 use Rattle.m11_link_load_map.specs.declared.fault.ObjectsFault.{ObjectsFault}
 
 -- the pass stops in the object with this index: after these parts, the objects before it have no fault, it has this fault, and the
--- others aren't read
+-- objects after it aren't read
 pub record StopsIn {F : Type 0} (pass : Pass F) (bottom : ℕ) (before : List Part) (index : ℕ) (stopped : LinkFault) : Type 0 where
   pub done : List F
   pub done_now : List F

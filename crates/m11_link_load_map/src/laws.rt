@@ -7,14 +7,14 @@ ghost use Rattle.m11_link_load_map.specs.LoadMap.{IsLoadMap, contribution_in, co
 ghost use Rattle.m11_link_modules.specs.Parts.{Part};
 ghost use Rattle.m11_link_modules.specs.Positions.{sections_in};
 
-/// The map shows exactly once each section that a module enters, in the order of the section entries, with its size in that module.
+/// The map shows each section entry of a module exactly once, in the order of the entries: the section, and its size in that module.
 #[tactic(auto, using(crate::proofs::Shown::each_shown))]
 pub fn each_section_entry_is_shown_once()
     ensures { (parts : List Part) (index : ℕ)
         → filter_map (contribution_in index) (contributions_of parts) ≡ sections_in (module_at parts index) }
 {}
 
-/// Objects have exactly one load map: the order of their globals is determined.
+/// Objects have at most one load map: the order of its globals is determined.
 pub fn objects_have_one_map()
     ensures { (bottom : ℕ) (parts : List Part) (text other : List ℕ)
         → IsLoadMap bottom parts text → IsLoadMap bottom parts other → text ≡ other }

@@ -19,14 +19,14 @@ mod run;
 pub use fault::{LoadMapFault, ObjectsFault};
 pub use run::load_map_run;
 
-// Names of addresses: the files with them, and the globals of a link of the objects among these files.
+// Names of addresses: the files that hold them, and the globals of a link of the objects among these files.
 mod link_globals;
 mod name_files;
 mod objects;
 
 pub use name_files::{NoNames, read_names};
 
-// Laws: each section entry is shown once, and objects have exactly one map.
+// Laws: each section entry is shown once, and objects have at most one map.
 mod laws;
 
 pub use laws::{each_section_entry_is_shown_once, objects_have_one_map};

@@ -14,7 +14,7 @@ use m11_link_layout::{LinkFault, Plan, PlannedGlobal};
 use std::alloc::{AllocError, Global};
 
 /// Reads objects once, and adds the globals of a link of them to `symbols`, in the order of their first definitions, with relocatable
-/// sections from `bottom` on. Errors: those of a link's first pass, each with the object at fault, unless all objects were read.
+/// sections beginning at `bottom`. Errors: those of a link's first pass, each with the object at fault, unless all objects were read.
 pub(crate) fn add_globals<F: Feed>(
     alloc: Global,
     seed: Seed,

@@ -32,10 +32,10 @@ struct Found<'a, I> {
     inputs: Vec<I>,
 }
 
-/// The names of addresses in the files at these paths: the globals of maps and load maps and the names in listings, in order, and
-/// after them the globals of a link of the objects among these files. Relocatable sections lie from `bottom` on. Each file is
-/// opened and read before the next, and an object is opened twice. Error: why a file gives no names, for the first such file; or
-/// else why a link of the objects is refused, with the path of the object at fault.
+/// The names of addresses in the files at these paths: the globals of maps and load maps and the names in listings, in order, and after
+/// them the globals of a link of the objects among these files. Relocatable sections begin at `bottom`. Each file is opened and read
+/// before the next; an object is then opened again, as for two passes, and must be a file that can be read more than once. Error: why a
+/// file gives no names, for the first such file; or else why a link of the objects is refused, with the path of the object at fault.
 pub fn read_names<'a, F: Opens>(
     alloc: Global,
     files: &mut F,
@@ -60,7 +60,7 @@ pub fn read_names<'a, F: Opens>(
     }
 }
 
-// The names that were found, and after them those of the objects. Error: why there are none.
+// The names that were found, and after them those of the objects. Error: why the objects give no names.
 fn with_objects<'a, F: Opens>(
     alloc: Global,
     files: &F,
@@ -127,7 +127,7 @@ fn add_files<'a, F: Opens>(
     }
 }
 
-// Adds the names in the file at this path, or the object that it is. Error: why the file gives no names.
+// Adds the names in the file at this path, or the file itself if it is an object. Error: why the file gives no names.
 fn add_file<'a, F: Opens>(
     alloc: Global,
     files: &mut F,
@@ -160,8 +160,8 @@ fn add_file<'a, F: Opens>(
     }
 }
 
-// Opens the object at this path again, and adds it. It is opened as for two passes, since a file that can be read only once would be empty
-// now, and is refused. Error: it can't be opened in this way, or memory was refused.
+// Opens the object at this path again, and adds it. It is opened as for two passes, so that a file that can be read only once, and would
+// now be empty, is refused. Error: it can't be opened in this way, or memory was refused.
 fn hold_object<'a, F: Opens>(
     files: &mut F,
     found: &mut Found<'a, F::Input>,

@@ -1,4 +1,4 @@
-//! The names in the objects among the files of names.
+//! The names in those files of names that are objects.
 
 ghost use Rattle.std.specs.Prelude.{◌≡◌, map};
 ghost use Rattle.m11_link_load_map.specs.NameFiles as spec;

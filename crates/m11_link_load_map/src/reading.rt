@@ -70,8 +70,8 @@ fn read_objects<F: Feed>(
     Ok(())
 }
 
-/// Reads all objects, and returns the plan of a link of them. Adds the other facts that the map needs to `noted`, which must be
-/// empty before. Errors: those of a link's first pass, each with the object at fault, unless all objects were read.
+/// Reads all objects, and returns the plan of a link of them. `noted`, which must be empty before, gets the other facts that the map
+/// needs. Errors: those of a link's first pass, each with the object at fault, unless all objects were read.
 pub(crate) fn read_all<F: Feed>(
     alloc: Global,
     seed: Seed,

@@ -14,7 +14,7 @@ use m11_link_layout::LinkFault;
 use std::alloc::Global;
 
 /// Reads objects once, and writes their load map: each module's contribution to each section, at its address in a link with
-/// relocatable sections from `bottom` on, and each global in the order of values.
+/// relocatable sections beginning at `bottom`, and the globals in the order of their values.
 ///
 /// Errors: `Objects`, with the fault of the first pass of such a link and, unless all objects were read, the object at fault; or with
 /// `NoMemory` if memory is refused for the map. In both cases nothing is written, and no object after the one at fault is read.

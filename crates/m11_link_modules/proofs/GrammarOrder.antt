@@ -1,4 +1,4 @@
--- The order rule is the grammar of modules and files.
+-- The rule for the order of parts is equivalent to the grammar of modules and files.
 use Rattle.std.proofs.Common.{◌≡◌, Bool, true, false, List, [], ◌∷◌, ◌++◌, map, refl, sym, subst}
 use Rattle.std.specs.List.{flat_map}
 use Rattle.std.proofs.lemmas.List.{append_assoc}
@@ -13,7 +13,7 @@ use Rattle.m11_link_modules.specs.Parts.{Part, Directory, Entry, EndOfDirectory,
 use Rattle.m11_link_modules.specs.Positions.{stage_from, stage_after}
 use Rattle.m11_link_modules.specs.Rules.{may_stand}
 
--- parts that stand where they may, from one stage to another
+-- each of these parts comes where it may, and they lead from the first stage to the last
 abbrev pub Leads : Stage → List Part → Stage → Type 0
 Leads stage [] last = stage ≡ last
 Leads stage (part ∷ parts) last = (may_stand part stage ≡ true) × Leads (stage_from stage (part ∷ [])) parts last
@@ -29,7 +29,7 @@ stage_step stage (Relocated relocation) parts = refl
 stage_step stage EndOfModule parts = refl
 stage_step stage EndOfFile parts = refl
 
--- ---- each part stands where it may
+-- ---- each part comes where it may
 
 leads_there : (stage last : Stage) (before : List Part) (part : Part) (following : List Part)
     → Leads stage (before ++ part ∷ following) last → may_stand part (stage_from stage before) ≡ true
@@ -103,7 +103,7 @@ body_leads last (RelocationRecord relocations ∷ body) rest h =
     subst P (sym (append_assoc (body_parts (RelocationRecord relocations)) (flat_map body_parts body) rest))
     (refl, relocations_lead InBody last relocations (flat_map body_parts body ++ rest) (body_leads last body rest h))
 
--- a module and what stands after it
+-- in the parts of a module and of what follows it, the end of the module comes right after its body
 module_then : (directory : List (List GsdEntry)) (body : List BodyRecord) (rest : List Part)
     → (flat_map directory_parts directory ++ EndOfDirectory ∷ flat_map body_parts body ++ EndOfModule ∷ []) ++ rest
     ≡ flat_map directory_parts directory ++ EndOfDirectory ∷ (flat_map body_parts body ++ EndOfModule ∷ rest)
@@ -124,7 +124,7 @@ modules_lead last (m ∷ modules) rest h =
     subst P (sym (append_assoc (module_parts m) (flat_map module_parts modules) rest))
     (module_leads last m (flat_map module_parts modules ++ rest) (modules_lead last modules rest h))
 
--- a file and what stands after it
+-- the parts of a file and of what follows it are those of its modules, its end, and what follows it
 file_then : (modules : List Module) (rest : List Part) → file_parts modules ++ rest ≡ flat_map module_parts modules ++ EndOfFile ∷ rest
 file_then modules rest = append_assoc (flat_map module_parts modules) (EndOfFile ∷ []) rest
 
@@ -142,7 +142,7 @@ pub files_closed : (files : List (List Module)) → stage_after (files_parts fil
 unfolding stage_after
 files_closed files = leads_to Between Between (files_parts files) (files_lead files)
 
--- ---- what is in order is files
+-- ---- parts in order are those of files
 
 past_entries : (stage last : Stage) (entries : List GsdEntry) (rest : List Part)
     → Leads stage (map (λ entry. Entry entry) entries ++ rest) last → Leads stage rest last
@@ -161,7 +161,7 @@ WhereTrue X false = Unit {0}
 refuted : {X : Type 0} → false ≡ true → X
 refuted {X} e = subst (WhereTrue X) e tt
 
--- from each stage on: modules and the end of a file, and files after it
+-- the parts of modules, of the end of their file, and of the files after it
 abbrev files_from : List Module → List (List Module) → List Part
 files_from modules files = flat_map module_parts modules ++ EndOfFile ∷ files_parts files
 
@@ -171,7 +171,7 @@ body_from body modules files = flat_map body_parts body ++ EndOfModule ∷ files
 abbrev directory_from : List (List GsdEntry) → List BodyRecord → List Module → List (List Module) → List Part
 directory_from directory body modules files = flat_map directory_parts directory ++ EndOfDirectory ∷ body_from body modules files
 
--- the parts of all items, and then the last end of a file
+-- the parts of all items and of a last end of a file
 abbrev all_parts : List Item → List Part
 all_parts items = items_parts (items ++ FileEnds ∷ [])
 
@@ -193,7 +193,7 @@ record FoundDirectory (parts : List Part) : Type 0 where
   files : List (List Module)
   is : parts ≡ directory_from directory body modules files
 
--- the first record of a module
+-- parts that begin in the directory of a module are those of the whole module, and of what follows it in its file
 module_found : (directory : List (List GsdEntry)) (body : List BodyRecord) (modules : List Module) (files : List (List Module)) (parts : List Part)
     → parts ≡ directory_from directory body modules files → FoundFiles parts
 module_found directory body modules files parts e = record {

@@ -1,4 +1,4 @@
--- What is known after one more part is what the step makes of what was known before it.
+-- The state known after one more part is the step for this part, applied to the state known before it.
 use Rattle.std.proofs.Common.{◌≡◌, ℕ, ◌+◌, Bool, true, false, ◌||◌, if◌then◌else◌, List, [], ◌∷◌, ◌++◌, length, append-nil, Option, Some, None, Result, Ok, Err, refl, sym, subst, arith}
 use Rattle.std.specs.List.{cons_option, filter_map, list_any}
 use Rattle.std.specs.Map.{keys_of, lookup}
@@ -152,7 +152,7 @@ none_there : {X : Type 0} (found : Option X) (faults : List (Bool × ModuleFault
 none_there None faults e = refl
 none_there (Some x) faults e = search
 
--- a part that ends no module
+-- the state after a part that ends no module
 abbrev going_on : RulesState → Part → RulesState
 going_on known part = record {
   stage = stage_from known.stage (part ∷ []);
@@ -170,7 +170,7 @@ unfolding known_of stage_after current_section text_length sections_in
 known_goes_on before part e =
     rw (stage_append Between before (part ∷ []), modules_append before part, section_names_append before part, globals_append before part, this_module_goes_on before part e, sections_append (this_module before) part, section_append absolute_name (this_module before) part, length_append None (this_module before) part)
 
--- what a part leaves alone
+-- the state with these fields
 abbrev with_parts : RulesState → Stage → List (ℕ × ℕ) → List (ℕ × ℕ) → ℕ × ℕ → Option ℕ → ℕ → List ((ℕ × ℕ) × ℕ) → RulesState
 with_parts known stage sections globals section text modules entered = record {
   stage = stage;
@@ -187,7 +187,7 @@ enters_none : (known : RulesState) (stage : Stage) (sections globals : List (ℕ
     ≡ with_parts known stage sections globals section text known.modules known.entered
 enters_none known stage sections globals section text = rw (add_zero known.modules, append-nil known.entered)
 
--- a section that is entered for the first time in its module
+-- if entering a section has no fault, it is inserted after the sections that the module entered before
 enters : (known : RulesState) (entry : GsdEntry) → first_there ((is_some (lookup (is_same_name entry.name) known.entered), BadOrder) ∷ (is_past most_sections known.sections entry.name, TooManySections) ∷ []) ≡ None
     → known.entered ++ (entry.name, entry.value) ∷ [] ≡ insert_entry is_same_name known.entered entry.name entry.value
 enters known entry e = sym (insert_entry-absent is_same_name entry.name entry.value known.entered
@@ -268,7 +268,7 @@ head_fault None before part parts e h =
     ≡ option_or (fault_of before part) f in
     subst P (known_after_part before part e) (subst Q h refl)
 
--- the first fault is found by what is known from part to part
+-- the first fault of parts is the one that is found from the state known before each of them
 pub faults_known : (before parts : List Part) → first_fault before parts ≡ first_known_fault (known_of before) parts
 unfolding first_fault
 faults_known before [] = refl
@@ -283,7 +283,7 @@ rest_none : (first rest : Option ModuleFault) → option_or first rest ≡ None 
 rest_none None rest e = e
 rest_none (Some fault) rest e = search
 
--- what is known after parts without a fault
+-- the state known after parts without a fault is the state after the steps for them
 pub known_after_parts : (before parts : List Part) → first_known_fault (known_of before) parts ≡ None
     → known_of (before ++ parts) ≡ known_after_all (known_of before) parts
 known_after_parts before [] n = rw (append-nil before)
@@ -311,7 +311,7 @@ all_after before old new parts is h e =
     let R : RulesState → Type 0 = λ known. new ≡ known in
     subst R (sym (known_after_parts before parts (subst P is h))) (subst Q is e)
 
--- what was taken by what is known was taken after the parts before
+-- parts that are accepted from the state known after earlier parts are accepted after these
 pub taken_after : (before : List Part) (old new : RulesState) (parts : List Part) (result : Result (Unit {0}) ModuleFault)
     → old ≡ known_of before → RulesTake old new parts result → AcceptsAfter before new parts result
 unfolding RulesTake

@@ -1,4 +1,4 @@
--- No part has a lack of memory as its fault: no rule yields that, and it comes only from what is kept.
+-- No part has the fault NoMemory: no rule yields it, and only storing a name returns it.
 use Rattle.std.proofs.Common.{◌≡◌, ℕ, Bool, true, false, if◌then◌else◌, List, [], ◌∷◌, Option, Some, None}
 use Rattle.std.specs.Map.{lookup}
 use Rattle.std.specs.Option.{is_some, option_or}

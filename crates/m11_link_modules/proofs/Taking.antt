@@ -1,4 +1,4 @@
--- Parts that are taken one after another.
+-- Parts that are accepted one after another.
 use Rattle.std.proofs.Common.{◌≡◌, ℕ, ◌+◌, ◌≤◌, List, [], ◌∷◌, length, map, drop, slice_get, ap, ◌++◌, Option, Some, None, Result, Ok, Err, refl, sym, subst}
 use Rattle.std.proofs.lemmas.List.{drop_all}
 use Rattle.std.specs.Option.{option_or}
@@ -19,7 +19,7 @@ pub none_taken : (known : RulesState) (done : Unit {0}) → RulesTake known know
 unfolding RulesTake
 none_taken known done = (refl, refl)
 
--- a part that has a fault ends the taking
+-- the fault of a part is a result of accepting it and the parts after it
 pub refused_first : (old new other : RulesState) (part : Part) (parts : List Part) (fault : ModuleFault)
     → AcceptsOne old other part (Err fault) → RulesTake old new (part ∷ parts) (Err fault)
 unfolding RulesTake AcceptsOne
@@ -40,7 +40,7 @@ refused_first old new other part parts TooManyGlobals h = rw h
 refused_first old new other part parts TooManySections h = rw h
 refused_first old new other part parts TooManyModules h = rw h
 
--- a part is taken, and then the others
+-- if a part has no fault, the first fault of it and the parts after it is that of the parts after it
 then_fault : (old middle : RulesState) (part : Part) (parts : List Part) (fault : Option ModuleFault)
     → fault_known old part ≡ None → middle ≡ known_after old part → first_known_fault middle parts ≡ fault
     → first_known_fault old (part ∷ parts) ≡ fault
@@ -73,12 +73,12 @@ taken_then old middle new part parts done (Err TooManyGlobals) h k = then_fault 
 taken_then old middle new part parts done (Err TooManySections) h k = then_fault old middle part parts (Some TooManySections) h.0 h.1 k
 taken_then old middle new part parts done (Err TooManyModules) h k = then_fault old middle part parts (Some TooManyModules) h.0 h.1 k
 
--- one part alone
+-- a result of accepting one part is a result of accepting a list of this part
 pub taken_one : (old new : RulesState) (part : Part) (result : Outcome) → AcceptsOne old new part result → RulesTake old new (part ∷ []) result
 taken_one old new part (Ok done) h = taken_then old new new part [] done (Ok done) h (none_taken new done)
 taken_one old new part (Err fault) h = refused_first old new new part [] fault h
 
--- ---- loops: what is left of the parts leads to all of them
+-- ---- loops: a result for the remaining parts is a result for all of them
 
 abbrev pub GoesOn : RulesState → RulesState → List Part → List Part → Type 0
 GoesOn old now rest all = (new : RulesState) (result : Outcome) → RulesTake now new rest result → RulesTake old new all result
@@ -103,7 +103,7 @@ returned_some : (fault : Option ModuleFault) (said : ModuleFault) → returned f
 returned_some None said e = search
 returned_some (Some fault) said e = search
 
--- what a check returned is the fault of the part
+-- the fault that the check of a part returned is a result of accepting the part
 pub refused : (old new : RulesState) (part : Part) (fault : ModuleFault) → returned (fault_known old part) ≡ Err fault
     → AcceptsOne old new part (Err fault)
 unfolding AcceptsOne
@@ -133,7 +133,7 @@ relocation_refused {seen} old new relocation fault is e =
 -- ---- loops over the items of a record, each of which is one part
 
 module _ {X : Type 0} (make : X → Part) where
-  -- items that are left, one of which is taken
+  -- if the result for the remaining items is that for all, so it is for those after the first, once the first is accepted
   pub walk_taken : (old now later : RulesState) (items rest following : List X) (item : X) (done : Unit {0}) → rest ≡ item ∷ following
       → GoesOn old now (map make rest) (map make items) → AcceptsOne now later (make item) (Ok done)
       → GoesOn old later (map make following) (map make items)
@@ -154,7 +154,7 @@ module _ {X : Type 0} (make : X → Part) where
       let P : List X → Type 0 = λ left. GoesOn old now (map make left) (map make items) in
       ends old now (map make items) done (subst P e i)
 
-  -- the same by an index
+  -- the same, if the remaining items are those at an index and after it
   pub item_taken : (old now later : RulesState) (items : List X) (index : ℕ) (item : X) (done : Unit {0}) → slice_get items index ≡ Some item
       → GoesOn old now (map make (drop index items)) (map make items) → AcceptsOne now later (make item) (Ok done)
       → GoesOn old later (map make (drop (index + 1) items)) (map make items)

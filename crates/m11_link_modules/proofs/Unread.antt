@@ -1,4 +1,4 @@
--- Relocations that are taken while they are read.
+-- Relocations that are accepted while they are read.
 use Rattle.std.proofs.Common.{◌≡◌, ℕ, List, [], ◌∷◌, map, IfOk, Result, Ok, Err, sym, subst, ap, ◌∙◌}
 use Rattle.m11_obj.specs.declared.fault.RecordFault.{RecordFault}
 use Rattle.m11_obj.specs.declared.relocations.Relocation.{Relocation}
@@ -12,19 +12,19 @@ use Rattle.m11_link_modules.specs.Positions.{RulesState}
 use Rattle.m11_link_modules.specs.Steps.{RulesTake, AcceptsOne}
 use Rattle.m11_link_modules.proofs.Taking.{GoesOn, Outcome, walk_ended, walk_refused, walk_taken}
 
--- the parts of relocations that are left in bytes
+-- the parts of the relocations that these bytes have
 abbrev pub parts_left : List ℕ → List Part
 parts_left bytes = map (λ relocation. Relocated relocation) (relocations_left bytes)
 
--- what is left leads to all, if all are relocations
+-- if all bytes are relocations, a result for the remaining ones is a result for all of them
 abbrev pub LeadsOn : RulesState → RulesState → List ℕ → List ℕ → Type 0
 LeadsOn old now bytes all = AreRelocations all → GoesOn old now (parts_left bytes) (parts_left all)
 
--- the bytes that are left are relocations exactly if all the bytes are
+-- checking the remaining bytes has the same result as checking all bytes
 abbrev pub SameRead : List ℕ → List ℕ → Type 0
 SameRead bytes all = checked (relocations_of bytes) ≡ checked (relocations_of all)
 
--- the first of the relocations in bytes stands before these
+-- the relocations in `bytes` are this one and then those in `rest`
 abbrev pub IsBefore : Relocation → List ℕ → List ℕ → Type 0
 IsBefore relocation bytes rest = relocations_of bytes ≡ (relocations_of rest >>= λ others. Ok (relocation ∷ others))
 
@@ -62,13 +62,13 @@ pub fault_read : (all bytes : List ℕ) (fault : RecordFault) → SameRead bytes
     → ◌≡◌ {A = Result (Unit {0}) RecordFault} (Err fault) (checked (relocations_of all))
 fault_read all bytes fault same e = sym (ap (λ (r : Result (List Relocation) RecordFault). checked r) e) ∙ same
 
--- the parts of a block of them
+-- the parts of a block of relocations are the beginning of its record, and then the relocations
 pub record_of_parts : (bytes unread : List ℕ) → content_of bytes ≡ unread_content unread → AreRelocations unread
     → record_parts bytes ≡ Relocations ∷ parts_left unread
 record_of_parts bytes unread e are =
     ap (λ (r : Result Content RecordFault). parts_in r) (e ∙ record_read unread are)
 
--- ---- a fault of a part, returned where all are relocations
+-- ---- a fault of a part, returned if all bytes are relocations
 
 abbrev pub Judged : Type 0
 Judged = Result Outcome RecordFault

@@ -32,7 +32,7 @@ module_parts m = flat_map directory_parts m.directory ++ EndOfDirectory ∷ flat
 abbrev pub file_parts : List Module → List Part
 file_parts modules = flat_map module_parts modules ++ EndOfFile ∷ []
 
--- the parts of files one after another, each of which is a list of modules
+-- the parts of files, one file after another; each file is a list of modules
 abbrev pub files_parts : List (List Module) → List Part
 files_parts files = flat_map file_parts files
 

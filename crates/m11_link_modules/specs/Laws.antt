@@ -8,8 +8,8 @@ use Rattle.m11_link_modules.specs.Parts.{Part}
 use Rattle.m11_link_modules.specs.Positions.{RulesState, known_of, stage_after}
 use Rattle.m11_link_modules.specs.Rules.{StopsAtName, first_fault, may_stand}
 
--- parts were accepted after the parts before them, and the new state is that after all of these; or their first fault was returned;
--- or memory was refused at a part that adds a name, with no fault in it or before it
+-- parts were accepted after the earlier ones, and `new` is the state after the earlier parts and these; or their first fault was
+-- returned; or memory was refused at a part that adds a name, and neither that part nor one before it has a fault
 abbrev pub AcceptsAfter : List Part → RulesState → List Part → Result (Unit {0}) ModuleFault → Type 0
 AcceptsAfter before new parts (Ok done) = (first_fault before parts ≡ None) × (new ≡ known_of (before ++ parts))
 AcceptsAfter before new parts (Err NoMemory) = StopsAtName (first_fault before) parts

@@ -1,6 +1,6 @@
--- What comes before a position in objects: the module so far, the sections that it entered, the section that texts go to, and the
--- length of the text that relocations change; and over all modules their number and the names so far. (RT-11 Volume and File Formats
--- Manual, "Object file format", GSD, TXT and RLD blocks.)
+-- What is known before a part of objects: the module so far, the sections that it entered, the section that texts go to, and the
+-- length of the text that relocations change; and, over all modules, their number and the names so far. (RT-11 Volume and File
+-- Formats Manual, "Object file format", GSD, TXT and RLD blocks.)
 use Rattle.std.specs.Prelude.{ℕ, ◌+◌, ◌||◌, Bool, true, false, List, [], ◌∷◌, length, Option, Some, None, if◌then◌else◌}
 use Rattle.std.specs.List.{filter_map, list_any}
 use Rattle.std.specs.Map.{keys_of, lookup}
@@ -61,13 +61,14 @@ section_in part = None
 unfoldable pub sections_in : List Part → List (Name × ℕ)
 sections_in parts = filter_map section_in parts
 
--- the size in bytes of a section that a module knows: the size that it entered, or 0 for `. ABS.` if it hasn't entered that; None
--- for any other name
+-- the size in bytes of a section in a module that has entered these sections; 0 for `. ABS.` if the module hasn't entered it; None for
+-- any other name
 abbrev pub size_known : List (Name × ℕ) → Name → Option ℕ
 size_known sections name =
     option_or (lookup (is_same_name name) sections) (if is_same_name name absolute_name then Some 0 else None)
 
--- the section that texts go to after a relocation: the one that a location counter definition selects, otherwise the one before
+-- the section that texts go to after a relocation: the section that a location counter definition selects; after any other
+-- relocation, the same section as before
 abbrev pub selected_by : Name → Target → Name
 selected_by section (target.LocationCounterDefinition name constant) = name
 selected_by section other = section
@@ -94,7 +95,7 @@ text_length parts = length_after None parts
 
 -- ---- names
 
--- the names seen already, then the new ones in order of first appearance, each once
+-- the names in `seen`, and then the other names, each once, in the order of first appearances
 abbrev pub distinct_after : List Name → List Name → List Name
 distinct_after seen [] = seen
 distinct_after seen (name ∷ names) = distinct_after (insert_key is_same_name seen name) names
@@ -130,7 +131,7 @@ global_names parts = distinct (filter_map global_in parts)
 unfoldable pub section_names : List Part → List Name
 section_names parts = distinct (keys_of (sections_in parts))
 
--- ---- all that the next part is judged by
+-- ---- what the next part is judged by
 
 pub record RulesState : Type 0 where
   pub stage : Stage

@@ -1,4 +1,4 @@
--- Which records, in their order, are modules, and which fault refuses the others: each part is judged by the parts before it.
+-- Which records, in their order, are modules, and with which fault others are refused: each part is judged by the parts before it.
 -- (RT-11 Volume and File Formats Manual, "Object file format". The faults, their order and the limits are this project's own.)
 use Rattle.std.specs.Prelude.{◌≡◌, ℕ, ◌+◌, ◌<◌, ◌≤◌, ◌&&◌, not, nat_lt, nat_le, nat_eq, Bool, true, false, List, [], ◌∷◌, ◌++◌, length, Option, Some, None, Result, Ok, Err, if◌then◌else◌}
 use Rattle.std.specs.Option.{is_none, is_some, option_or, unwrap_or}
@@ -21,7 +21,7 @@ use Rattle.m11_link_modules.specs.declared.stage.Stage.TheVariants.{Between, InB
 
 -- ---- the order of records
 
--- whether a part may come at this stage; entries and relocations always may, since they come in their record
+-- whether a part may come at this stage; entries and relocations always may, since the beginning of their record is judged instead
 abbrev pub may_stand : Part → Stage → Bool
 may_stand Directory InBody = false
 may_stand Directory stage = true
@@ -66,7 +66,7 @@ abbrev pub begin_fault : Stage → ℕ → Option ModuleFault
 begin_fault Between modules = first_there ((nat_le most_modules modules, TooManyModules) ∷ [])
 begin_fault stage modules = None
 
--- octal 10 is the flag of a definition, octal 40 that of a relocatable value
+-- whether an entry defines its symbol; octal 10 is the flag of a definition, and octal 40 that of a relocatable value
 abbrev pub defines : GsdEntry → Bool
 defines entry = has_bits 0o10 entry.flags
 
@@ -101,7 +101,7 @@ entry_fault TransferAddress entry entered sections globals = section_fault enter
 entry_fault GlobalSymbol entry entered sections globals = symbol_fault entry entered globals
 entry_fault kind entry entered sections globals = None
 
--- the fault of a text of this many bytes from an address on, if it doesn't end inside a section of this size
+-- the fault of a text of `count` bytes at an address, if the text ends past the end of a section of this size
 abbrev pub text_fault : ℕ → ℕ → ℕ → Option ModuleFault
 text_fault size address count = first_there ((nat_lt size (address + count), TextOutside) ∷ [])
 
@@ -134,8 +134,8 @@ target_fault (target.GlobalAdditive name constant) entered globals = global_faul
 target_fault (target.GlobalAdditiveDisplaced name constant) entered globals = global_fault globals name
 target_fault other entered globals = None
 
--- the fault of a relocation: commands 7 and octal 10 store nothing, 7 must name a known section, and octal 10 has no fault; for any
--- other command the location's fault comes before the target's
+-- the fault of a relocation, if it has one: commands 7 and octal 10 store nothing; 7 must name a known section, and octal 10 has no
+-- fault; for any other command the location's fault comes before the target's
 abbrev pub relocation_by : Target → Relocation → List (Name × ℕ) → Option ℕ → List Name → Option ModuleFault
 relocation_by (target.LocationCounterDefinition name constant) relocation entered text globals = section_fault entered name
 relocation_by (target.LocationCounterModification constant) relocation entered text globals = None
@@ -156,7 +156,7 @@ fault_in_order known (Relocated relocation) =
     relocation_fault relocation known.entered known.text known.globals
 fault_in_order known part = None
 
--- the fault of a part, given what is known before it: BadOrder if the part may not come at that stage
+-- the fault of a part, if it has one, given what is known before it; BadOrder if the part may not come at that stage
 unfoldable pub fault_known : RulesState → Part → Option ModuleFault
 fault_known known part = if may_stand part known.stage then fault_in_order known part else Some BadOrder
 
@@ -164,7 +164,7 @@ fault_known known part = if may_stand part known.stage then fault_in_order known
 abbrev pub fault_of : List Part → Part → Option ModuleFault
 fault_of before part = fault_known (known_of before) part
 
--- the first fault of parts, if there is one, in their order, after the parts before them
+-- the first fault of these parts in their order, given the parts before them; None if they have no fault
 unfoldable pub first_fault : List Part → List Part → Option ModuleFault
 first_fault before [] = None
 first_fault before (part ∷ parts) = option_or (fault_of before part) (first_fault (before ++ part ∷ []) parts)
@@ -195,7 +195,7 @@ abbrev pub opening_fault : Stage → ℕ → Option ModuleFault
 opening_fault InBody modules = Some BadOrder
 opening_fault stage modules = begin_fault stage modules
 
--- no more modules have ended than a link accepts, and fewer inside a module
+-- at most as many modules have ended as a link accepts; inside a module, fewer than that
 abbrev pub InLimits : Stage → ℕ → Type 0
 InLimits Between modules = modules ≤ most_modules
 InLimits stage modules = modules < most_modules

@@ -38,8 +38,8 @@ pub(crate) fn check_begin(stage: Stage, modules: usize) -> Result<(), ModuleFaul
     }
 }
 
-/// Checks that a text, whose address is an offset in bytes in a section of `size` bytes, ends inside the section. Returns the
-/// text's length in bytes.
+/// Checks that a text doesn't end past the end of its section, which has `size` bytes; otherwise the fault is `TextOutside`. The
+/// text's address is an offset in bytes in the section. Returns the text's length in bytes.
 pub(crate) fn check_text(size: u16, address: u16, bytes: &[u8]) -> Result<u16, ModuleFault>
     ensures judged { outcome_of result ≡ returned (text_fault size address (length bytes.now)) }
     ensures text_length { IfOk result (λ count. count ≡ length bytes.now) }
@@ -58,7 +58,8 @@ fn is_past(most: usize, names: &SeededSet<Name>, name: Name) -> bool
     names.len() >= most && !names.contains(&name)
 }
 
-/// Checks an entry of a directory: a section, a transfer address or a global symbol. Entries of other kinds have no fault.
+/// Checks an entry of a directory. Faults: for a section, `BadOrder`, then `TooManySections`; for a transfer address,
+/// `UnknownSection`; for a global symbol, `BadOrder`, then `TooManyGlobals`. Entries of other kinds have no fault.
 pub(crate) fn check_entry(
     entry: &GsdEntry,
     entered: &mut EnteredSections,
@@ -175,7 +176,8 @@ fn check_target(
     }
 }
 
-/// Checks a relocation. If it stores bytes, it is returned as one that lies within the text before it; otherwise None is returned.
+/// Checks a relocation. Returns it with the length of the text before it if it stores bytes, otherwise None. Faults, in this order:
+/// `NoText`, `BadDisplacement`, `UnknownSection`, `TooManyGlobals`.
 // speed: inline, and its caller too: a call would pass each judged relocation on in memory.
 #[inline(always)]
 pub(crate) fn check_relocation(

@@ -56,8 +56,8 @@ impl EnteredSections {
         self.sizes.contains_key(&name)
     }
 
-    /// The size in bytes of a section that the module has entered; 0 for `. ABS.` if it hasn't entered that; None for any other
-    /// name.
+    /// The size in bytes of a section that the module has entered; 0 for `. ABS.` if the module hasn't entered it; None for any
+    /// other name.
     pub(crate) fn size_of(&mut self, name: Name) -> Option<u16>
         ensures size { result ≡ size_known self.old name }
         ensures same { self.new ≡ self.old }
@@ -70,7 +70,7 @@ impl EnteredSections {
         self.look_up(name)
     }
 
-    // Looks up the size that `size_of` returns, in the table alone. A section whose size is known becomes the one found last.
+    // Returns the same size as `size_of`, but always searches the table. A section whose size is known becomes the one found last.
     fn look_up(&mut self, name: Name) -> Option<u16>
         ensures size { result ≡ size_known self.old name }
         ensures same { self.new ≡ self.old }

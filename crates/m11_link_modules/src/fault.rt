@@ -9,7 +9,7 @@ use thiserror::Error;
 /// The reason why records, in their order, are not a list of modules, or are more than a link accepts.
 #[derive(Clone, Copy, Debug, PartialEq, Eq, Error)]
 pub enum ModuleFault {
-    /// A record comes where none of its type may; a section is entered twice in a module; a relocatable global is defined before
+    /// A record comes where its type isn't allowed; a section is entered twice in a module; a relocatable global is defined before
     /// any section is entered; a file ends inside a module.
     #[error("a record or an entry is out of order")]
     BadOrder,
@@ -19,10 +19,10 @@ pub enum ModuleFault {
     /// Not all bytes that a relocation stores are inside the text before it.
     #[error("a relocation lies outside its text")]
     BadDisplacement,
-    /// A section other than `. ABS.` is named before the module enters it.
+    /// A section other than `. ABS.` is referred to before the module enters it.
     #[error("a section is unknown in its module")]
     UnknownSection,
-    /// A text doesn't end inside its section, given the section's size in this module.
+    /// A text ends past the end of its section, given the section's size in this module.
     #[error("a text lies outside its section")]
     TextOutside,
     /// There are more than 8,192 names of globals in all modules together.

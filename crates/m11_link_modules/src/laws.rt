@@ -6,15 +6,15 @@ ghost use Rattle.m11_link_modules.specs.Laws.{AreFiles, AreInOrder};
 ghost use Rattle.m11_link_modules.specs.Positions.{stage_after};
 ghost use Rattle.m11_link_modules.specs.declared.stage.Stage.TheVariants.{Between};
 
-/// In files of whole modules each part comes where it may, and no module is open after them.
+/// In files of whole modules each part comes where it may, and no module is open after the last file.
 #[tactic(auto, using(crate::proofs::GrammarOrder::files_in_order, crate::proofs::GrammarOrder::files_closed))]
 pub fn files_are_in_order()
     ensures order { (files : List (List Module)) → AreInOrder (files_parts files) }
     ensures following { (files : List (List Module)) → stage_after (files_parts files) ≡ Between }
 {}
 
-/// Records and ends of files, the last of which is the end of a file, are files of whole modules if each of their parts comes where
-/// it may.
+/// If a list of records and ends of files ends with the end of a file, and each of its parts comes where it may, its parts are
+/// those of files of whole modules.
 #[tactic(auto, using(crate::proofs::GrammarOrder::ordered_files))]
 pub fn ordered_records_are_files()
     ensures { (items : List Item) → AreInOrder (items_parts (items ++ FileEnds ∷ []))

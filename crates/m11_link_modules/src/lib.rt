@@ -1,5 +1,5 @@
-//! Modules: the records that an object is made of, in their order, and the first one that doesn't fit. (RT-11 Volume and File
-//! Formats Manual, "Object file format".)
+//! Modules: the records that an object is made of, in their order, and the first fault in them. (RT-11 Volume and File Formats
+//! Manual, "Object file format".)
 #![tactic(auto)]
 
 // The faults of the records of an object.

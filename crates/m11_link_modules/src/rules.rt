@@ -167,7 +167,7 @@ impl Rules {
     }
 
     /// Accepts a text, whose address is an offset in bytes in the section that texts go to. This call does what `record` does for a
-    /// text record, for a caller that has read its contents.
+    /// text record. It is for a caller that has already read the record.
     ///
     /// Faults: `BadOrder` outside the body of a module, then `TextOutside`.
     #[tactic(auto, unfolding(crate::specs::Steps::AcceptsOne, crate::specs::Steps::known_after, crate::specs::Rules::fault_known))]
@@ -196,7 +196,7 @@ impl Rules {
         Ok(())
     }
 
-    // Leaves the current module, if there is one, without counting it: no module is open, and nothing is known of one.
+    // Leaves the current module, if there is one, without counting it. Afterwards no module is open, and nothing is known of one.
     fn leave_module(&mut self)
         ensures { self.new ≡ record self.old { stage = Stage.Between; entered = []; section = absolute_name; text = None } }
     {
@@ -206,8 +206,8 @@ impl Rules {
         self.text = None;
     }
 
-    /// Accepts a directory record. This call does what `record` does for a record of these entries, for a caller that has read
-    /// them.
+    /// Accepts a directory record. This call does what `record` does for a record of these entries. It is for a caller that has
+    /// already read them.
     ///
     /// Faults: `BadOrder` in the body of a module, then `TooManyModules` if it would begin the 33rd module; then the first fault of
     /// the entries, in their order; within an entry `BadOrder`, `UnknownSection`, then a limit. `NoMemory` as in `record`.
@@ -219,7 +219,7 @@ impl Rules {
         self.entries(entries)
     }
 
-    // Accepts the entries of a directory record that was read before.
+    // Accepts the entries of a directory record, which were already read.
     fn entries(&mut self, entries: &[GsdEntry]) -> Result<(), ModuleFault>
         ensures { RulesTake self.old self.new (map (λ entry. Entry entry) entries.now) result }
     {
@@ -258,7 +258,7 @@ impl Rules {
         self.add_entry(entry)
     }
 
-    // Stores the section or the global of an entry; entries of other kinds store nothing. `NoMemory` if memory is refused.
+    // Stores the section or the global of an entry, and nothing for an entry of another kind. `NoMemory` if memory is refused.
     fn add_entry(&mut self, entry: &GsdEntry) -> Result<(), ModuleFault>
         ensures noted { Notes self.new (with_entry entry.now.kind entry.now self.old) result }
         ensures adds { IfErr result (λ _. adds_name (Entry entry.now) ≡ true) }
@@ -292,8 +292,8 @@ impl Rules {
     /// relocation, do what one call of `record` does. They are for a caller that uses a relocation as soon as it is judged: a
     /// relocation that stores bytes is returned with the length of the text before it; for any other the result is None.
     ///
-    /// Faults: `NoText`, `BadDisplacement`, `UnknownSection`, `TooManyGlobals`, and `NoMemory` if memory is refused for a
-    /// global's name that passes no limit.
+    /// Faults: `NoText`, `BadDisplacement`, `UnknownSection`, `TooManyGlobals`, and `NoMemory` if memory is refused for the name of
+    /// a global, and there is no other fault.
     // speed: inline, and `check_relocation` too: a call would pass each judged relocation on in memory.
     #[inline(always)]
     #[tactic(auto, unfolding(crate::specs::Steps::AcceptsOne, crate::specs::Steps::known_after, crate::specs::Rules::fault_known))]
@@ -309,8 +309,8 @@ impl Rules {
         Ok(stored)
     }
 
-    // Stores the section that a location counter definition selects, or the name of a global in a target. Other targets store
-    // nothing. `NoMemory` if memory is refused.
+    // Stores the section that a location counter definition selects, or the name of a global in a target, and nothing for any other
+    // target. `NoMemory` if memory is refused.
     fn add_target(&mut self, target: Target) -> Result<(), ModuleFault>
         ensures noted { Notes self.new (with_target target self.old) result }
         ensures adds { IfErr result (λ _. is_some (global_of target) ≡ true) }

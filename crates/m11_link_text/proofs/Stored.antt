@@ -12,7 +12,7 @@ use Rattle.m11_link_modules.specs.TextRelocation.{InText, stored_by}
 use Rattle.m11_link_text.specs.Findings.{Findings}
 use Rattle.m11_link_text.specs.Relocation.{modulo, relocated, replaced, stored_bytes, value_bytes, value_of}
 
--- ---- no more bytes than the width of a relocation
+-- ---- a relocation stores no more bytes than its width
 
 value_width : (width : Bool → ℕ) → width true ≡ 1 → width false ≡ 2 → (is_byte : Bool) (value : ℕ)
     → length (value_bytes is_byte value) ≤ width is_byte
@@ -60,7 +60,7 @@ stored_width near index own location is_byte (target.SectionAdditiveDisplaced na
     value_width (λ b. width_of b (target.SectionAdditiveDisplaced name constant)) refl refl is_byte
     (value_of near index own location (target.SectionAdditiveDisplaced name constant))
 
--- a relocation stores four bytes at most
+-- a relocation is at most four bytes wide
 pub width_small : (is_byte : Bool) (t : Target) → width_of is_byte t ≤ 4
 width_small is_byte target.ProgramLimits = omega arith
 width_small true (target.Internal constant) = omega arith
@@ -68,7 +68,7 @@ width_small false (target.Internal constant) = omega arith
 width_small true other = omega arith
 width_small false other = omega arith
 
--- ---- if nothing is stored
+-- ---- a relocation that stores nothing changes no text
 
 none_replaced : (text : List ℕ) (index : ℕ) → replaced text index [] ≡ text
 none_replaced text index =
@@ -110,7 +110,7 @@ both_true : (a b : Bool) → (a && b) ≡ true → (a ≡ true) × (b ≡ true)
 both_true true b e = (refl, e)
 both_true false b e = absurd cc
 
--- where a relocation lies
+-- a relocation lies within a text of `count` bytes
 record Place (relocation : Relocation) (count : ℕ) : Type 0 where
   starts : 4 ≤ relocation.displacement
   ends : relocation.displacement + width_of relocation.is_byte relocation.target ≤ 4 + count
@@ -147,19 +147,19 @@ size_kept found module_index own address relocation text false e =
     let stored = stored_bytes found module_index own (modulo (address + index)) relocation.is_byte relocation.target in
     ap (λ (c : Bool). length (if c then replaced text index stored else text)) e
 
--- ---- a relocation that was judged by the length of a text
+-- ---- a relocation that lies within a text of some length
 
 lies : (r : Relocation) (n : ℕ) → 4 ≤ r.displacement → r.displacement + width_of r.is_byte r.target ≤ 4 + n → lies_within r n ≡ true
 lies r n least most =
     ap₂ (λ a b. a && b) (le-leb 4 r.displacement least) (le-leb (r.displacement + width_of r.is_byte r.target) (4 + n) most)
 
--- what it stores lies within each text that is as long
+-- if a relocation lies within a text of `count` bytes, it ends within the first `n` bytes for any `n` of at least `count`
 pub judged_fits : (relocation : Relocation) (count n : ℕ) → lies_within relocation count ≡ true → count ≤ n
     → relocation.displacement - 4 + width_of relocation.is_byte relocation.target ≤ n
 judged_fits relocation count n e le =
     let place = place_of relocation count e in omega (arith, place.starts, place.ends, le)
 
--- it is stored in each text that is as long
+-- if a relocation lies within a text of `count` bytes, its bytes are stored in any text of at least that length
 pub judged_is_stored : (found : Findings) (module_index own address count : ℕ) (relocation : Relocation) (text : List ℕ)
     → lies_within relocation count ≡ true → count ≤ length text
     → replaced text (relocation.displacement - 4) (stored_bytes found module_index own

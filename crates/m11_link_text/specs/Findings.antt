@@ -19,11 +19,11 @@ pub record Findings : Type 0 where
   -- the attributes of a section's first entry, if there is one, and the name of a module
   pub attributes : Name → Option ℕ
   pub module_name : ℕ → Name
-  -- sections and globals, and the names that modules refer to, each with whether it has a strong reference
+  -- sections and globals, and the names that modules refer to, each with whether a strong reference to it exists
   pub sections : List PlannedSection
   pub globals : List PlannedGlobal
   pub references : List (Name × Bool)
-  -- the transfer address, the first address of relocatable sections, and the address after the last of them
+  -- the transfer address, the first address of the relocatable sections, and the address after the last relocatable section
   pub transfer : ℕ
   pub bottom : ℕ
   pub top : ℕ

@@ -12,12 +12,12 @@ use Rattle.m11_obj_print.specs.Lines.{line_of}
 abbrev pub undefined_line : Name → Bytes
 undefined_line name = line_of (codes "UNDEFINED GLOBAL " ++ name_text name)
 
--- the message about a definition of a global after the first one
+-- the message about a module that defines a global again
 abbrev pub multiple_line : Name → Name → Bytes
 multiple_line name module_name =
     line_of ((codes "MULTIPLE DEFINITION " ++ name_text name) ++ (codes " IN MODULE " ++ name_text module_name))
 
--- the message about an entry of a section with attributes other than those of the first entry
+-- the message about a module whose entry for a section has attributes other than those of the section's first entry
 abbrev pub different_line : Name → Name → Bytes
 different_line section module_name =
     line_of ((codes "DIFFERENT ATTRIBUTES " ++ name_text section) ++ (codes " IN MODULE " ++ name_text module_name))
@@ -44,6 +44,6 @@ name_line name = line_of (name_text name)
 abbrev pub transfer_line : ℕ → Bytes
 transfer_line address = line_of (codes "TRANSFER " ++ octal_text address)
 
--- the line of the limits: the first address of relocatable sections, and the address after the last of them
+-- the line of the limits: the first address of the relocatable sections, and the address after the last relocatable section
 abbrev pub limit_line : ℕ → ℕ → Bytes
 limit_line bottom top = line_of (((codes "LIMIT " ++ octal_text bottom) ++ 32 ∷ []) ++ octal_text top)

@@ -30,7 +30,7 @@ abbrev pub following : ℕ → ℕ
 following location = modulo (location + 2)
 
 -- the value of a target at a location of a text in the module with this index; `own` is the base of the module's contribution to
--- the text's section; the limits, and commands that only select a location, have the value 0
+-- the text's section. The limits, and commands that only select a location, have the value 0
 abbrev pub value_of : Findings → ℕ → ℕ → ℕ → Target → ℕ
 value_of found module_index own location (target.Internal constant) = modulo (own + constant)
 value_of found module_index own location (target.Global name) = symbol found name
@@ -64,12 +64,13 @@ stored_bytes found module_index own location is_byte other =
 
 -- ---- where it is stored
 
--- a text with these bytes in place of those from an index on
+-- a text with these bytes in place of as many of its own, beginning at this index
 abbrev pub replaced : Bytes → ℕ → Bytes → Bytes
 replaced text index bytes = take index text ++ bytes ++ drop (index + length bytes) text
 
--- a text at this address after a relocation; the text's first byte has the displacement 4, and `own` is the base of the module's
--- contribution to the text's section; a relocation that doesn't lie within the text is refused earlier, and changes nothing here
+-- the bytes of a text at this address after a relocation was applied to it. The text's first byte has the displacement 4, and `own` is
+-- the base of the module's contribution to the text's section. A relocation that doesn't lie within the text is refused earlier, and
+-- changes nothing here
 abbrev pub relocated : Findings → ℕ → ℕ → ℕ → Relocation → Bytes → Bytes
 relocated found module_index own address relocation text =
     let index = relocation.displacement - 4 in

@@ -1,6 +1,6 @@
 //! The texts that a link writes: the lines of its messages and of its map, and the texts of objects with the values of their
-//! relocations. The crate knows no output, and no order between outputs. (RT-11 Volume and File Formats Manual, "Object file
-//! format", RLD block; the lines are this project's own.)
+//! relocations. The crate itself writes nothing to an output, and doesn't say in which order outputs are written. (RT-11 Volume and
+//! File Formats Manual, "Object file format", RLD block; the lines are this project's own.)
 #![tactic(auto)]
 
 mod lines;

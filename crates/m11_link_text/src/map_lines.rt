@@ -64,7 +64,7 @@ pub fn transfer_line(address: u16) -> Line
     ended(line)
 }
 
-/// The line of the limits: the first address of relocatable sections, and the address after the last of them.
+/// The line of the limits: the first address of the relocatable sections, and the address after the last relocatable section.
 pub fn limit_line(bottom: u16, top: u16) -> Line
     ensures { result.items ≡ spec.limit_line bottom top }
 {

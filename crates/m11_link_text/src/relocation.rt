@@ -71,7 +71,8 @@ fn put_word(bytes: &mut ArrayVec<u8, 4>, word: u16)
     bytes.try_extend_from_slice(&pair).unwrap();
 }
 
-// The four bytes of the program's limits: the first address of relocatable sections, and the address after the last of them.
+// The four bytes of the program's limits: the first address of the relocatable sections, and the address after the last relocatable
+// section.
 fn limit_bytes(plan: &Plan) -> ArrayVec<u8, 4>
     ensures width { array_vec_len result ≡ 4 }
     ensures bytes { result.items ≡ word_bytes plan.now.bottom ++ word_bytes plan.now.top }
@@ -83,7 +84,7 @@ fn limit_bytes(plan: &Plan) -> ArrayVec<u8, 4>
     bytes
 }
 
-// Replaces the bytes of a text from an index on.
+// Writes these bytes over those of a text, beginning at this index.
 // speed: inline, so that a word is stored at once.
 #[inline(always)]
 fn replace(text: &mut [u8], index: usize, bytes: &[u8])

@@ -6,7 +6,7 @@ use Rattle.std.proofs.lemmas.List.Folds.{length-flat_map-take}
 use Rattle.std.proofs.lemmas.List.Elements.{All-more}
 
 module _ {X : Type 0} where
-  -- one more piece
+  -- if the bytes have the pieces of the items so far, they have those of one more item once its piece is added
   pub pieces_more : (f : X → List ℕ) (head : List ℕ) (xs : List X) (i : ℕ) (x : X) (bytes next : List ℕ)
       → i < length xs → x ≡ get_or xs i x → bytes ≡ head ++ flat_map f (take i xs) → next ≡ bytes ++ f x
       → next ≡ head ++ flat_map f (take (i + 1) xs)
@@ -16,7 +16,7 @@ module _ {X : Type 0} where
       rw (take_more xs i x lt) in
       added ∙ here ∙ flat_map_more f head (take i xs) (get_or xs i x) ∙ sym longer
 
-  -- the pieces so far leave room for the next one
+  -- if all pieces fit, those so far leave room for the next one
   pub piece_has_room : (f : X → List ℕ) (xs : List X) (i : ℕ) (x : X) (bytes : List ℕ) (head : List ℕ) (limit : ℕ)
       → i < length xs → x ≡ get_or xs i x → bytes ≡ head ++ flat_map f (take i xs)
       → length (flat_map f xs) + length head ≤ limit → length bytes + length (f x) ≤ limit
@@ -27,12 +27,12 @@ module _ {X : Type 0} where
       ap length so_far ∙ length-append head (flat_map f (take i xs)) in
       omega arith
 
-  -- what holds of the items so far and of the next one
+  -- a property of the items so far and of the next one is a property of one more item
   pub fact_more : (P : X → Type 0) (xs : List X) (i : ℕ) (x : X) → i < length xs → x ≡ get_or xs i x
       → All P (take i xs) → P x → All P (take (i + 1) xs)
   fact_more P xs i x lt is before here = All-more P xs i x lt before (subst P is here)
 
-  -- all pieces, and what holds of all items
+  -- after the last item, the bytes have all pieces
   pub pieces_all : (f : X → List ℕ) (head : List ℕ) (xs : List X) (i : ℕ) (bytes : List ℕ) → length xs ≤ i
       → bytes ≡ head ++ flat_map f (take i xs) → bytes ≡ head ++ flat_map f xs
   pieces_all f head xs i bytes le is = is ∙ rw (take_all i xs le)

@@ -1,4 +1,5 @@
--- Lists cut into longest beginnings: what one more item does to the fronts, and that they are what they should be.
+-- Lists divided into fronts, the longest beginnings that pass a test: how one more item changes the fronts, and that they have
+-- their properties.
 use Rattle.std.proofs.Common.{◌≡◌, ℕ, ◌+◌, ◌<◌, ◌≤◌, zero, suc, Bool, true, false, cond, List, [], ◌∷◌, ◌++◌, take, drop, length, refl, sym, ap, subst, ◌∙◌, append_assoc, arith}
 use Rattle.std.proofs.lemmas.Bool.{false≢true, true≢false}
 use Rattle.std.proofs.lemmas.List.{append-nil, length-append, take_all}
@@ -17,11 +18,11 @@ none_more n = omega arith
 one_fewer : (m n : ℕ) → m + suc n ≡ suc m + n
 one_fewer m n = omega arith
 
--- a test that beginnings of what passes pass too, and each item alone
+-- a test that each single item passes, and that a beginning of a list passes if the list does
 module _ {A : Type 0} (passes : List A → Bool) (nothing : passes [] ≡ false)
     (beginning : (x : A) (xs ys : List A) → passes ((x ∷ xs) ++ ys) ≡ true → passes (x ∷ xs) ≡ true)
     (alone : (x : A) → passes (x ∷ []) ≡ true) where
-  -- ---- fronts that are longest are those of the cutting
+  -- ---- longest fronts are those that the definition finds
 
   no_more : (x : A) (xs : List A) (p : A) (ps : List A) → passes ((x ∷ xs) ++ p ∷ []) ≡ false
       → passes ((x ∷ xs) ++ p ∷ ps) ≡ false
@@ -144,7 +145,7 @@ module _ {A : Type 0} (passes : List A → Bool) (nothing : passes [] ≡ false)
     opened closed front p h.2 e,
   )
 
-  -- ---- each list is cut
+  -- ---- each list has its fronts
 
   record Cut (items : List A) : Type 0 where
     closed : List (List A)
@@ -208,7 +209,7 @@ module _ {A : Type 0} (passes : List A → Bool) (nothing : passes [] ≡ false)
     pub the_last_passes : passes front ≡ true
     the_last_passes = last_passes closed front longest_so_far
 
-    -- the last front takes in one more item
+    -- if the last front passes with one more item, the item joins it
     pub fronts-grown : (p : A) → passes (front ++ p ∷ []) ≡ true
         → fronts_of passes (items ++ p ∷ []) ≡ closed ++ (front ++ p ∷ []) ∷ []
     fronts-grown p h =
@@ -216,7 +217,7 @@ module _ {A : Type 0} (passes : List A → Bool) (nothing : passes [] ≡ false)
         ∙ ap (fronts_of passes) (sym (joined-grown closed front p))
         ∙ the_fronts (closed ++ (front ++ p ∷ []) ∷ []) (grown closed front p longest_so_far h)
 
-    -- or the item opens another one
+    -- if the last front doesn't pass with one more item, the item begins another front
     pub fronts-opened : (p : A) → passes (front ++ p ∷ []) ≡ false
         → fronts_of passes (items ++ p ∷ []) ≡ (closed ++ front ∷ []) ++ (p ∷ []) ∷ []
     fronts-opened p h =

@@ -10,7 +10,7 @@ use Rattle.m11_obj.proofs.Steps.{entry_shrinks}
 abbrev Found : Type 0
 Found = Result (List GsdEntry) RecordFault
 
--- these entries were read from all the bytes, and these bytes are left
+-- these entries were read from the beginning of all bytes, and the bytes `rest` are left
 abbrev pub AreRead : List ℕ → List GsdEntry → List ℕ → Type 0
 AreRead all entries rest = entries_of all ≡ (entries_of rest >>= λ others. Ok (entries ++ others))
 

@@ -1,4 +1,4 @@
--- Where the fields of a record stand in its bytes.
+-- The places of a record's fields in its bytes.
 use Rattle.std.proofs.Common.{◌≡◌, ℕ, zero, suc, ◌+◌, ◌*◌, ◌-◌, ◌<◌, ◌≤◌, Bool, true, false, cond, ltb, List, [], ◌∷◌, length, drop, get_or, Result, Ok, Err, refl, sym, ap, subst, ◌∙◌, arith, length-drop}
 use Rattle.std.specs.Prelude.{is_ok}
 use Rattle.std.proofs.lemmas.List.{drop-drop}
@@ -29,12 +29,12 @@ done x = Ok x
 pub ok_is : {A : Type 0} (x y : A) → done x ≡ done y → x ≡ y
 ok_is x y e = cc
 
--- the rest is what stands after n bytes
+-- there are at least `count` bytes, and `rest` is the bytes after them
 pub record Takes (count : ℕ) (bytes rest : List ℕ) : Type 0 where
   pub enough : count ≤ length bytes
   pub following : rest ≡ drop count bytes
 
--- what was read is made of these parts
+-- if two results are equal, and the bytes after the first are those after `count` bytes, so are those after the second
 takes_same : {A : Type 0} (count : ℕ) (bytes : List ℕ) (made x : A × List ℕ) → done made ≡ done x
     → Takes count bytes made.1 → Takes count bytes x.1
 takes_same {A} count bytes made x e takes =
@@ -80,7 +80,7 @@ name_takes bytes x e =
     let made : (ℕ × ℕ) × List ℕ = ((a.0.0, b.0.0), b.0.1) in
     takes_same 4 bytes made x b.2 both
 
--- what an entry is made of
+-- the entry with these fields
 abbrev pub entry_of : ℕ × ℕ → ℕ → GsdKind → ℕ → GsdEntry
 entry_of name flags kind value = record { name = name; flags = flags; kind = kind; value = value }
 
@@ -115,7 +115,7 @@ entry_takes bytes x e =
 
 -- ---- entries
 
--- the others, if the first was read
+-- if all items are read, the first one is, and then the others
 others_of : (n byte : ℕ) (bytes : List ℕ) (entries : List GsdEntry)
     → items_within first_entry (suc n) (byte ∷ bytes) ≡ Ok entries
     → (first : GsdEntry × List ℕ) × (others : List GsdEntry) × (first_entry (byte ∷ bytes) ≡ Ok first)
@@ -173,7 +173,7 @@ type_takes bytes x e =
     let made : RecordKind × List ℕ = (b.0, a.0.1) in
     takes_same 2 bytes made x b.2 (word_takes bytes a.0 a.1)
 
--- a record's type is the one that its type word says
+-- a content that was read for a type is of this type
 kind_is : (type : RecordKind) (bytes : List ℕ) (content : Content) → content_after type bytes ≡ Ok content
     → kind_in content ≡ type
 unfolding content_after
@@ -190,7 +190,7 @@ kind_is kind.Relocations bytes content e =
 kind_is kind.InternalSymbols bytes content e = sym (ap kind_in (ok_is InternalSymbols content e))
 kind_is kind.EndOfModule bytes content e = sym (ap kind_in (ok_is EndOfModule content e))
 
--- what a record is made of
+-- a record of this content: its type, and the bytes after its type word
 pub record Parts (bytes : List ℕ) (content : Content) : Type 0 where
   pub type : RecordKind
   pub rest : List ℕ

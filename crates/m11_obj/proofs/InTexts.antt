@@ -24,7 +24,7 @@ some_bytes (Byte stored) = omega arith
 some_bytes (Word stored) = omega arith
 some_bytes Limits = omega arith
 
--- locations are counted modulo 65536
+-- the location `more` bytes after a piece is the location `size + more` bytes after its beginning, modulo 65536
 next_location : (location size more : ℕ) → 1 ≤ size
     → ((location + (size - 1)) % 65536 + 1 + more) % 65536 ≡ (location + (size + more)) % 65536
 next_location location size more h = omega arith

@@ -1,4 +1,4 @@
--- Items that stand one after another, up to the end of the bytes.
+-- Items that are read one after another, up to the end of the bytes.
 use Rattle.std.proofs.Common.{◌≡◌, ℕ, zero, suc, ◌<◌, ◌≤◌, List, [], ◌∷◌, length, Result, Ok, Err, refl, ap, ◌∙◌, arith}
 use Rattle.m11_obj.specs.declared.fault.RecordFault.{RecordFault}
 use Rattle.m11_obj.specs.Reading.{◌>>=◌, items_within, items_of, checked}
@@ -8,12 +8,12 @@ bind_same : {A B : Type 0} (r : Result A RecordFault) (f g : A → Result B Reco
 bind_same (Ok x) f g e = e x refl
 bind_same (Err fault) f g e = refl
 
--- each item takes some of the bytes
+-- each item has at least one byte
 pub record Shrinks {A : Type 0} (first : List ℕ → Result (A × List ℕ) RecordFault) : Type 0 where
   pub shorter : (bytes : List ℕ) (x : A × List ℕ) → first bytes ≡ Ok x → length x.1 < length bytes
 
 module _ {A : Type 0} (first : List ℕ → Result (A × List ℕ) RecordFault) where
-  -- a number of items that is large enough says nothing
+  -- any two limits on the number of items yield the same items, if both are at least the number of bytes
   within_enough : (m n : ℕ) (bytes : List ℕ) → Shrinks first → length bytes ≤ m → length bytes ≤ n
       → items_within first m bytes ≡ items_within first n bytes
   unfolding items_within
@@ -29,7 +29,7 @@ module _ {A : Type 0} (first : List ℕ → Result (A × List ℕ) RecordFault) 
       ap (λ (r : Result (List A) RecordFault). r >>= λ others. Ok (x.0 ∷ others))
       (within_enough m n x.1 shrinks (omega arith) (omega arith)))
 
-  -- one item, and those after it
+  -- if a first item is read, the items are this one and then those in the bytes after it
   pub items_step : (bytes : List ℕ) (x : A × List ℕ) → Shrinks first → first bytes ≡ Ok x
       → items_of first bytes ≡ (items_of first x.1 >>= λ others. Ok (x.0 ∷ others))
   unfolding items_of items_within
@@ -39,7 +39,7 @@ module _ {A : Type 0} (first : List ℕ → Result (A × List ℕ) RecordFault) 
       rw is (ap (λ (r : Result (List A) RecordFault). r >>= λ others. Ok (x.0 ∷ others))
       (within_enough (length bytes) (length x.1) x.1 shrinks (omega arith) (omega arith)))
 
-  -- the first fault
+  -- if the first item of some bytes has a fault, this is the fault of all items
   pub items_stop : (bytes : List ℕ) (fault : RecordFault) → 0 < length bytes → first bytes ≡ Err fault
       → items_of first bytes ≡ Err fault
   unfolding items_of items_within
@@ -55,7 +55,7 @@ module _ {A : Type 0} (first : List ℕ → Result (A × List ℕ) RecordFault) 
   checked_more (Ok others) item = refl
   checked_more (Err fault) item = refl
 
-  -- whether there are items is decided by those after the first
+  -- if a first item is read, the bytes after it decide whether all items are valid
   pub checked_step : (bytes : List ℕ) (x : A × List ℕ) → Shrinks first → first bytes ≡ Ok x
       → checked (items_of first bytes) ≡ checked (items_of first x.1)
   checked_step bytes x shrinks is =

@@ -1,4 +1,4 @@
--- What was read from bytes stands in them, in the one form in which it is written.
+-- Fields and items that are read from bytes are in these bytes in the only form in which they are written.
 use Rattle.std.proofs.Common.{◌≡◌, ℕ, zero, suc, ◌+◌, ◌*◌, ◌/◌, ◌%◌, ◌<◌, ◌≤◌, ◌^◌, Bool, true, false, cond, ltb, List, [], ◌∷◌, ◌++◌, length, Option, Some, None, Result, Ok, Err, refl, sym, ap, subst, ◌∙◌, append_assoc, arith}
 use Rattle.std.specs.Prelude.{IfSome, ◌&&◌, nat_le}
 use Rattle.std.specs.List.{flat_map, AllByRecursion}
@@ -20,11 +20,11 @@ use Rattle.m11_obj.proofs.FieldsOf.{done, ok_is, bind_ok, guard_ok, entry_of}
 use Rattle.m11_obj.proofs.Items.{Shrinks}
 use Rattle.m11_obj.proofs.Steps.{relocation_of}
 
--- every item is a byte
+-- each number is a byte
 abbrev pub Bytes : List ℕ → Type 0
 Bytes bytes = AllByRecursion (λ byte. byte < 256) bytes
 
--- the bytes begin with what is written, and the rest stands after it
+-- the bytes are what is written and then the rest, of which each number is a byte
 pub record Begins (bytes written rest : List ℕ) : Type 0 where
   pub is : bytes ≡ written ++ rest
   pub following : Bytes rest
@@ -38,7 +38,7 @@ begins_then bytes first middle second rest one two = record {
 
 -- ---- words and names
 
--- a field that fits its room, as it is written
+-- the bytes begin with the field as it is written, and the field has the property `P`
 pub record Reads {A : Type 0} (write : A → List ℕ) (P : A → Type 0) (bytes : List ℕ) (x : A × List ℕ) : Type 0 where
   pub begins : Begins bytes (write x.0) x.1
   pub fits : P x.0
@@ -178,13 +178,13 @@ entry_reads bytes x are e =
 
 -- ---- relocations
 
--- a target has this command, and what follows the command
+-- a target has this command, and this name and constant, if any
 record TargetIs (code : ℕ) (target : Target) (name : Option (ℕ × ℕ)) (constant : Option ℕ) : Type 0 where
   command_is : (parts_of target).command ≡ code
   name_is : (parts_of target).name ≡ name
   constant_is : (parts_of target).constant ≡ constant
 
--- a row is that of the command
+-- each target of the form has this command, and the fields of the form
 abbrev Reports : ℕ → Form → Type 0
 Reports code (Nothing target) = TargetIs code target None None
 Reports code (Constant target) = (constant : ℕ) → TargetIs code (target constant) None (Some constant)
@@ -265,7 +265,7 @@ form_exists true (SectionDisplaced name) e = tt
 form_exists true (SectionAdditive name constant) e = tt
 form_exists true (SectionAdditiveDisplaced name constant) e = tt
 
--- what stands after the displacement
+-- the bytes after a displacement begin with the name and the constant of a target with this command, which are in range
 record TargetStands (code : ℕ) (bytes : List ℕ) (x : Target × List ℕ) : Type 0 where
   begins : Begins bytes (optional_name (parts_of x.0).name ++ optional_word (parts_of x.0).constant) x.1
   command_is : (parts_of x.0).command ≡ code
@@ -315,7 +315,7 @@ target_stands (NameAndConstant target) code bytes x reports are e =
     stands code bytes (target name.0.0 constant.0.0) constant.0.1 x (Some name.0.0) (Some constant.0.0)
     (reports name.0.0 constant.0.0) both n.fits word.fits constant.2
 
--- a command byte is its command and its bit
+-- a command byte is its command plus the bit of its form
 code_parts : (code : ℕ) (b : Bool) → code < 256 → nat_le 128 code ≡ b → code ≡ code % 128 + byte_form b
 code_parts code true lt e = let le = leb-true 128 code e in omega arith
 code_parts code false lt e = let le = leb-false 128 code e in omega arith
@@ -382,11 +382,11 @@ relocation_reads bytes x are e =
 -- ---- items one after another
 
 module _ {A : Type 0} (first : List ℕ → Result (A × List ℕ) RecordFault) (write : A → List ℕ) (P : A → Type 0) where
-  -- each item stands as it is written
+  -- each item that is read is in the bytes as it is written
   pub record EachReads : Type 0 where
     pub at : (bytes : List ℕ) (x : A × List ℕ) → Bytes bytes → first bytes ≡ Ok x → Reads write P bytes x
 
-  -- the items, as they are written
+  -- the bytes are these items as they are written, and each item has the property `P`
   pub record AllRead (bytes : List ℕ) (items : List A) : Type 0 where
     pub is : bytes ≡ flat_map write items
     pub fits : AllByRecursion P items

@@ -49,7 +49,7 @@ entries-push : (rows : List DirectoryRow) (row : DirectoryRow)
     → record_cutting (rows ++ row ∷ []) ≡ fronts_of is_one_record (map entry_of rows ++ entry_of row ∷ [])
 entries-push rows row = ap (fronts_of is_one_record) (map-append entry_of rows (row ∷ []))
 
--- a row goes in if the record has room
+-- if the waiting record has room, a row joins it
 pub row_goes_in : (rows : List DirectoryRow) (written : List Content) (row : DirectoryRow) (waiting : List GsdEntry)
     → IsOpenDirectory rows written waiting → length waiting < 15
     → IsOpenDirectory (rows ++ row ∷ []) (written ++ []) (waiting ++ entry_of row ∷ [])
@@ -66,7 +66,7 @@ row_goes_in rows written row (x ∷ xs) h room = record {
   records = append-nil written ∙ h.records;
 }
 
--- or a full record is written, and the row begins another one
+-- if the waiting record is full, it is written, and the row begins another one
 pub row_closes : (rows : List DirectoryRow) (written : List Content) (row : DirectoryRow) (waiting : List GsdEntry)
     → IsOpenDirectory rows written waiting → 15 ≤ length waiting
     → IsOpenDirectory (rows ++ row ∷ []) (written ++ written_by waiting) (entry_of row ∷ [])

@@ -100,7 +100,7 @@ pub no_entries : (bytes : List ℕ) (k : RecordKind) → record_kind bytes ≡ O
     → length (record_entries bytes) ≡ 0
 no_entries bytes k e ne = none_by_kind (content_of bytes) k e ne
 
--- an entry's index, and what is read there
+-- the entry at an index is read from its place in the bytes: 8 bytes for each entry before it, after the type word
 abbrev FoundAt : List ℕ → List GsdEntry → ℕ → GsdEntry → Type 0
 FoundAt bytes entries i d =
     (2 + 8 * i ≤ length bytes)
@@ -145,7 +145,7 @@ text_parts bytes address text e =
     let t = word_takes (drop 2 bytes) (address, text) found in
     (omega (arith, t.enough, p.takes.enough, length-drop 2 bytes), found, t.following ∙ drop-drop 2 2 bytes)
 
--- a text record: where its load address and its bytes stand
+-- the places of a text record's load address and bytes
 pub record IsTextOf (bytes : List ℕ) (text : ℕ × List ℕ) : Type 0 where
   pub enough : 4 ≤ length bytes
   pub address : first_word (drop 2 bytes) ≡ Ok text

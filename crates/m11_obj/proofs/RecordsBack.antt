@@ -1,4 +1,4 @@
--- A record that was read stands in its bytes as it is written, and what so stands is read.
+-- A record that is read is in its bytes as it is written, and a record that is in bytes in this way is read.
 use Rattle.std.proofs.Common.{◌≡◌, ℕ, zero, suc, ◌+◌, ◌*◌, ◌<◌, ◌≤◌, List, [], ◌++◌, length, Result, Ok, Err, refl, sym, ap, subst, ◌∙◌, append-nil, arith, get_or, w8, Fits as FitsWidth}
 use Rattle.std.specs.Prelude.{All, OnOk}
 use Rattle.std.proofs.lemmas.List.{get_or_default}
@@ -55,7 +55,7 @@ type_begins bytes x are e =
     subst (λ (code : ℕ). Begins bytes (word_bytes code) a.0.1) (type_is_code a.0.0 b.0 b.1) word.begins in
     subst (λ (p : RecordKind × List ℕ). TypeBegins bytes p) (ok_is made x b.2) here
 
--- ---- what stands after the type
+-- ---- the bytes after the type
 
 entries_each : EachReads first_entry entry_bytes EntryFits
 entries_each = record { at = entry_reads }
@@ -82,7 +82,7 @@ relocations_read bytes relocations are e =
     items_read first_relocation relocation_bytes RelocationFits (length bytes) bytes relocations relocations_each
     relocation_shrinks are (omega arith) e
 
--- a record with fields, and nothing after them
+-- bytes that are exactly those written for a content are a record of this content
 whole : (content : Content) (bytes written : List ℕ) → Fits content → bytes ≡ written → written ≡ record_data content
     → IsRecordOf content bytes
 whole content bytes written fits is same = record {

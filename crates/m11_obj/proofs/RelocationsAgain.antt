@@ -14,7 +14,7 @@ use Rattle.m11_obj.specs.Relocations.{parts_of, optional_name, optional_word, by
 use Rattle.m11_obj.specs.Reading.{Form, Nothing, Constant, Name, NameAndConstant, row_of, form_of, first_target, first_relocation, items_within, items_of, relocations_of}
 use Rattle.m11_obj.proofs.ReadAgain.{word_again, name_again}
 
--- the row of a target's command
+-- the form of a target's command
 row : Target → Form
 row (Internal constant) = Constant (λ c. Internal c)
 row (Global name) = Name (λ n. Global n)
@@ -60,7 +60,7 @@ row_again true (SectionDisplaced name) exists = refl
 row_again true (SectionAdditive name constant) exists = refl
 row_again true (SectionAdditiveDisplaced name constant) exists = refl
 
--- what follows a command of each form
+-- the fields that are written after a command are read as its target
 constant_again : (target : ℕ → Target) (constant : ℕ) (rest : List ℕ) → constant < 2 ^ 16
     → first_target (Constant target) (word_bytes constant ++ rest) ≡ Ok (target constant, rest)
 unfolding first_target
@@ -120,7 +120,7 @@ command_below (SectionDisplaced name) = omega arith
 command_below (SectionAdditive name constant) = omega arith
 command_below (SectionAdditiveDisplaced name constant) = omega arith
 
--- the two parts of a command byte
+-- the bit and the command in a command byte are read again
 bit_again : (code : ℕ) (is_byte : Bool) → code < 16 → nat_le 128 (code + byte_form is_byte) ≡ is_byte
 bit_again code true lt = le-leb 128 (code + 128) (omega arith)
 bit_again code false lt = lt-leb 128 (code + 0) (omega arith)

@@ -1,4 +1,4 @@
--- Directory entries and relocations, one after another: each takes some of the bytes.
+-- Directory entries and relocations, one after another: each has at least one byte.
 use Rattle.std.proofs.Common.{◌≡◌, ℕ, ◌+◌, ◌%◌, ◌<◌, ◌≤◌, List, length, Result, Ok, Err, ap, ◌∙◌, arith, length-drop}
 use Rattle.std.specs.Prelude.{nat_le}
 use Rattle.m11_obj.specs.declared.fault.RecordFault.{RecordFault}

@@ -46,7 +46,7 @@ ok_checked : (found : Found) → is_ok (checked found) ≡ is_ok found
 ok_checked (Ok relocations) = refl
 ok_checked (Err fault) = refl
 
--- what is left consists of relocations if the whole did
+-- if all bytes are relocations, and checking the remaining ones has the same result, the remaining ones are relocations
 pub are_left : (bytes all : List ℕ) → checked (relocations_of bytes) ≡ checked (relocations_of all)
     → AreRelocations all → AreRelocations bytes
 are_left bytes all e are =
@@ -58,14 +58,14 @@ more_checked : (found : Found) (relocation : Relocation)
 more_checked (Ok others) relocation = refl
 more_checked (Err fault) relocation = refl
 
--- the next decides nothing
+-- checking the bytes has the same result with or without the next relocation, which is valid
 pub checked_next : (bytes rest : List ℕ) (relocation : Relocation)
     → relocations_of bytes ≡ (relocations_of rest >>= λ others. Ok (relocation ∷ others))
     → checked (relocations_of bytes) ≡ checked (relocations_of rest)
 checked_next bytes rest relocation e =
     ap (λ (r : Found). checked r) e ∙ more_checked (relocations_of rest) relocation
 
--- those that are left are the next and those after it
+-- the relocations that are left are the next one and those after it
 pub left_next : (bytes rest : List ℕ) (relocation : Relocation) → AreRelocations bytes
     → relocations_of bytes ≡ (relocations_of rest >>= λ others. Ok (relocation ∷ others))
     → relocations_left bytes ≡ relocation ∷ relocations_left rest

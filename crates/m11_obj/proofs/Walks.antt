@@ -12,7 +12,7 @@ use Rattle.m11_obj.proofs.FieldsOf.{done, ok_is, bind_ok, parts_of}
 use Rattle.m11_obj.proofs.Items.{items_step, items_stop, items_none}
 use Rattle.m11_obj.proofs.Steps.{relocation_length, relocation_shrinks}
 
--- what is left before and after the first relocation
+-- the relocations in `bytes` are this one and then those in `rest`, all of which are valid
 pub record Walks (bytes : List ℕ) (relocation : Relocation) (rest : List ℕ) : Type 0 where
   pub are : AreRelocations rest
   pub left : relocations_left bytes ≡ relocation ∷ relocations_left rest
@@ -45,7 +45,7 @@ walk_ends (byte ∷ bytes) fault are first =
     let stopped = items_stop first_relocation (byte ∷ bytes) fault (omega arith) first in
     let no = sym are ∙ ap (λ (q : Result (List Relocation) RecordFault). is_ok q) stopped in absurd cc
 
--- no bytes have no relocations
+-- the empty list of bytes is valid as relocations
 pub none_are : AreRelocations []
 unfolding relocations_of
 none_are =
@@ -57,9 +57,9 @@ none_left =
     ap (λ (q : Result (List Relocation) RecordFault). result_unwrap_or q [])
     (items_none first_relocation [] (omega arith))
 
--- ---- by number
+-- ---- by index
 
--- those left are those of the bytes, n after the first
+-- the relocations in `rest`, which are valid, are those in `bytes` without the first `count`
 pub record Passed (bytes rest : List ℕ) (count : ℕ) : Type 0 where
   pub are : AreRelocations rest
   pub same : (k : ℕ) → slice_get (relocations_left rest) k ≡ slice_get (relocations_left bytes) (k + count)
@@ -96,7 +96,7 @@ passed_end bytes rest fault count index passed le first =
 
 -- ---- in a record
 
--- a relocation takes two bytes at least
+-- relocations have at least two bytes each
 within_few : (n : ℕ) (bytes : List ℕ) (relocations : List Relocation)
     → items_within first_relocation n bytes ≡ Ok relocations → 2 * length relocations ≤ length bytes
 unfolding items_within

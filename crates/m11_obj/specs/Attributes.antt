@@ -67,7 +67,7 @@ abbrev pub shown_name : Bytes → Bytes
 shown_name [] = []
 shown_name (byte ∷ bytes) = if byte == 0o40 then [] else byte ∷ shown_name bytes
 
--- the names of the attributes among these that the bits have, in order, without the blanks that pad them
+-- for each of these attributes that the bits have, in order, its name without the blanks that pad it
 abbrev pub names_among : List Attribute → ℕ → List Bytes
 names_among [] bits = []
 names_among (row ∷ rows) bits =
@@ -75,14 +75,14 @@ names_among (row ∷ rows) bits =
 
 -- ---- the default attributes of sections
 
--- `. ABS.`, which `.ASECT` selects: RW, I, GBL, ABS, OVR
+-- the attributes of `. ABS.`, which `.ASECT` selects: RW, I, GBL, ABS, OVR
 abbrev pub of_absolute : ℕ
 of_absolute = 0o104
 
--- the blank section, and a section that `.PSECT` names without attributes: RW, I, LCL, REL, CON
+-- the attributes of the blank section, and of a section that `.PSECT` names without attributes: RW, I, LCL, REL, CON
 abbrev pub of_program : ℕ
 of_program = 0o040
 
--- a section that `.CSECT` names: RW, I, GBL, REL, OVR
+-- the attributes of a section that `.CSECT` names: RW, I, GBL, REL, OVR
 abbrev pub of_control : ℕ
 of_control = 0o144

@@ -18,7 +18,8 @@ unread_directory bytes = entries_of bytes >>= λ entries. Ok (Gsd entries)
 abbrev pub unread_content : Bytes → Result Content RecordFault
 unread_content bytes = relocations_of bytes >>= λ relocations. Ok (Relocations relocations)
 
--- the content of a block, or the first fault; entries and relocations that are still to be read may yet have a fault
+-- a call read the content of a block, or returned the first fault; the entries and relocations of the content are still unread, and may
+-- have a fault
 abbrev pub ReadsContents : Bytes → Result Contents RecordFault → Type 0
 ReadsContents bytes (Ok (contents.Directory unread)) = content_of bytes ≡ unread_directory unread
 ReadsContents bytes (Ok contents.EndOfDirectory) = content_of bytes ≡ Ok EndOfGsd
@@ -29,7 +30,7 @@ ReadsContents bytes (Ok contents.InternalSymbols) = content_of bytes ≡ Ok Inte
 ReadsContents bytes (Ok contents.EndOfModule) = content_of bytes ≡ Ok EndOfModule
 ReadsContents bytes (Err fault) = content_of bytes ≡ Err fault
 
--- the next unread relocation, which leaves fewer bytes; or none after the last; or the first fault
+-- a call read the next relocation, which leaves fewer bytes unread; or no relocation was left; or the call returned the first fault
 abbrev pub ReadsRelocation : Bytes → Bytes → Result (Option Relocation) RecordFault → Type 0
 ReadsRelocation old new (Ok None) = relocations_of old ≡ Ok []
 ReadsRelocation old new (Ok (Some relocation)) =

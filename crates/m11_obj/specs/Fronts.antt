@@ -3,13 +3,13 @@
 use Rattle.std.specs.Prelude.{◌≡◌, ℕ, zero, suc, Bool, true, false, if◌then◌else◌, List, [], ◌∷◌, ◌++◌, length, take, drop, ⊤}
 use Rattle.std.specs.List.{flat_map}
 
--- the longest prefix of at most n items that passes the test, or no item if none passes
+-- the longest prefix of 1 to n items that passes the test; the empty list if none of these prefixes passes
 abbrev pub longest_front : {A : Type 0} → (List A → Bool) → ℕ → List A → List A
 longest_front passes zero items = []
 longest_front passes (suc most) items =
     if passes (take (suc most) items) then take (suc most) items else longest_front passes most items
 
--- the first fronts, at most n of them
+-- the first fronts of a list, at most n of them
 abbrev pub fronts_by : {A : Type 0} → (List A → Bool) → ℕ → List A → List (List A)
 fronts_by passes zero items = []
 fronts_by passes (suc most) [] = []

@@ -28,7 +28,7 @@ name_bytes name = word_bytes name.0 ++ word_bytes name.1
 abbrev pub has_bits : ℕ → ℕ → Bool
 has_bits mask flags = bit_and flags mask == mask
 
--- eight bytes: the two words of the name, the flags byte, the type byte, the value
+-- the eight bytes of an entry: the two words of its name, the flags byte, the type byte, and the value
 abbrev pub entry_bytes : GsdEntry → Bytes
 entry_bytes entry =
     name_bytes entry.name ++ entry.flags ∷ kind_code entry.kind ∷ word_bytes entry.value
@@ -36,7 +36,7 @@ entry_bytes entry =
 abbrev pub entries_bytes : List GsdEntry → Bytes
 entries_bytes entries = flat_map entry_bytes entries
 
--- an entry whose fields fit into its eight bytes
+-- the fields of an entry fit into its eight bytes
 pub record EntryFits (entry : GsdEntry) : Type 0 where
   pub name : IsName entry.name
   pub flags : entry.flags < 2 ^ 8

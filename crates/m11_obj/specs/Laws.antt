@@ -10,8 +10,8 @@ use Rattle.m11_obj.specs.Fronts.{joined, AreLongest}
 use Rattle.m11_obj.specs.Pieces.{size_of, content_bytes, relocation_at, text_bytes, relocations_from, relocations_of}
 use Rattle.m11_obj.specs.Texts.{most_bytes, is_one_text, cutting}
 
--- the texts hold exactly the pieces, in order; each is a list of pieces that fit into one text, but wouldn't with the next piece
--- added, if one is left
+-- the texts hold exactly the pieces, in order; the pieces of each fit into one text, but wouldn't with the next piece added, if one is
+-- left
 pub record HoldsPieces (pieces : List Piece) : Type 0 where
   pub exact : joined (cutting pieces) ≡ pieces
   pub longest : AreLongest is_one_text (cutting pieces)
@@ -21,8 +21,8 @@ abbrev pub location_of : List Piece → ℕ
 location_of [] = 0
 location_of (first ∷ rest) = first.location
 
--- a piece of a text, after some pieces and before others: its bytes lie in the text at its location, modulo 65536, and within the
--- limit of a text's bytes; its relocation, if it has one, has the displacement of its first byte
+-- the bytes of a piece lie in its text at the piece's location, modulo 65536, between the bytes of the pieces before and after it, and
+-- within the limit of a text's bytes; the piece's relocation, if it has one, has the displacement of the piece's first byte
 pub record LiesInText (before : List Piece) (piece : Piece) (after : List Piece) : Type 0 where
   pub location : piece.location ≡ (location_of (before ++ piece ∷ after) + length (text_bytes before)) % 65536
   pub bytes : text_bytes (before ++ piece ∷ after)

@@ -12,7 +12,7 @@ use Rattle.m11_obj.specs.Texts.{TextParts, most_bytes, most_relocation_bytes, cu
 
 -- ---- one piece
 
--- the relocation of a piece that is added to a text, or none: a list of at most one
+-- the relocation that a piece has if it is added to this text, as a list; the list is empty if the piece has none
 abbrev pub relocations_in : TextParts → Piece → List Relocation
 relocations_in text piece = option_to_list (relocation_at (4 + length text.bytes) piece.content)
 
@@ -35,7 +35,7 @@ with_piece text piece = record {
 
 -- ---- all pieces so far
 
--- the section of the last of these texts, or, if there are none, that of the text before them, if there is one
+-- the section of the last of these texts; if there are none, that of the text before them, or None if there is no such text
 abbrev pub last_section : Option Name → List (List Piece) → Option Name
 last_section before [] = before
 last_section before ([] ∷ fronts) = last_section before fronts

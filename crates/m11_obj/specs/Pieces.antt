@@ -31,7 +31,7 @@ target_of (kind.Section name) constant =
 target_of (kind.SectionDisplaced name) constant =
     Some (if constant == 0 then target.SectionDisplaced name else target.SectionAdditiveDisplaced name constant)
 
--- the number in the text: 0 if the linker replaces it
+-- the number that a text holds for a constant of this kind: the constant, or 0 if the linker replaces it
 abbrev pub standing : RelocationKind → ℕ → ℕ
 standing kind.Fixed constant = constant
 standing _ constant = 0
@@ -45,7 +45,7 @@ abbrev pub relocation : Bool → ℕ → Target → Relocation
 relocation is_byte displacement target =
     record { is_byte = is_byte; displacement = displacement; target = target }
 
--- the relocation of these bytes, if they have one, with this displacement; the relocation of a single byte has the byte form
+-- the relocation of a piece's content, if it has one, with this displacement; the relocation of a byte has the byte form
 abbrev pub relocation_at : ℕ → PieceContent → Option Relocation
 relocation_at displacement (Byte stored) =
     option_map (λ target. relocation true displacement target) (target_of stored.kind stored.constant)
@@ -73,7 +73,7 @@ relocations_from displacement (piece ∷ pieces) =
     option_to_list (relocation_at displacement piece.content)
     ++ relocations_from (displacement + size_of piece) pieces
 
--- the relocations of the pieces of one text; a displacement is an offset from the type word of its record, whose first data byte
--- is at 4
+-- the relocations of the pieces of one text; a displacement is an offset in bytes from the type word of the text record, whose first
+-- data byte is at 4
 abbrev pub relocations_of : List Piece → List Relocation
 relocations_of pieces = relocations_from 4 pieces

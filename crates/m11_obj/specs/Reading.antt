@@ -35,7 +35,7 @@ first_word [] = Err BadLength
 first_word (low ∷ []) = Err BadLength
 first_word (low ∷ high ∷ rest) = Ok (low + 256 * high, rest)
 
--- one of a name's words, which must be below octal 175000
+-- the first word, as one of a name's two words; the fault `BadName` if it isn't below octal 175000
 unfoldable pub first_name_word : Bytes → Result (ℕ × Bytes) RecordFault
 first_name_word bytes = do
   word ← first_word bytes
@@ -66,7 +66,7 @@ items_of first bytes = items_within first (length bytes) bytes
 
 -- ---- entries of the global symbol directory
 
--- the types of entries, by code; or the fault of a code without one
+-- the types of entries, by code; or the fault of a code without a type
 abbrev pub kinds : List (Result GsdKind RecordFault)
 kinds =
     Ok ModuleName ∷ Ok ControlSection ∷ Ok InternalSymbol ∷ Ok TransferAddress ∷ Ok GlobalSymbol
@@ -96,7 +96,7 @@ pub data Form : Type 0 where
   Name : (rad50.Name → Target) → Form
   NameAndConstant : (rad50.Name → ℕ → Target) → Form
 
--- the forms of the commands, by code; or the fault of a code without one
+-- the forms of the commands, by code; or the fault of a code without a form
 abbrev pub forms : List (Result Form RecordFault)
 forms =
     Err UnknownRelocation
@@ -117,7 +117,7 @@ forms =
     ∷ Err Complex
     ∷ []
 
--- commands 7, octal 10 and octal 11 have no byte form
+-- whether the command with this code has no byte form: 7, octal 10 and octal 11 have none
 abbrev pub is_without_byte_form : ℕ → Bool
 is_without_byte_form code = nat_le 0o7 code && nat_le code 0o11
 
@@ -155,7 +155,7 @@ relocations_of bytes = items_of first_relocation bytes
 
 -- ---- records
 
--- the types of records, by code; or the fault of a code without one
+-- the types of records, by code; or the fault of a code without a type
 abbrev pub types : List (Result RecordKind RecordFault)
 types =
     Err UnknownType ∷ Ok kind.Gsd ∷ Ok kind.EndOfGsd ∷ Ok kind.Text ∷ Ok kind.Relocations
@@ -199,7 +199,7 @@ IsRecord bytes = is_ok (content_of bytes) ≡ true
 abbrev pub IsHeldRecord : Bytes → Type 0
 IsHeldRecord bytes = IsRecord bytes × (length bytes ≤ content_limit)
 
--- what is read is the record that is written as these bytes
+-- the bytes are a valid record, and its content is one that is written as these bytes, apart from ignored bytes at their end
 abbrev pub SaysWhatIsWritten : Bytes → Type 0
 SaysWhatIsWritten bytes = (content : Content) × (content_of bytes ≡ Ok content) × IsRecordOf content bytes
 
@@ -233,7 +233,7 @@ abbrev pub text_in : Result Content RecordFault → Option (ℕ × Bytes)
 text_in (Ok (Text address bytes)) = Some (address, bytes)
 text_in content = None
 
--- the load address and the bytes of a text record; none for other records
+-- the load address and the bytes of a text record; None for other records
 abbrev pub record_text : Bytes → Option (ℕ × Bytes)
 record_text bytes = text_in (content_of bytes)
 
@@ -261,7 +261,7 @@ relocations_left bytes = result_unwrap_or (relocations_of bytes) []
 abbrev pub checked : {A : Type 0} → Result A RecordFault → Result (Unit {0}) RecordFault
 checked read = read >>= λ x. Ok tt
 
--- a call reads what the definition does: `view` turns its result into the definition's, and faults are the same
+-- a call returns what the definition reads: `view` turns the call's value into the definition's, and faults are the same
 abbrev pub Gives : {X Y : Type 0} → (X → Y) → Result X RecordFault → Result Y RecordFault → Type 0
 Gives view (Ok x) read = read ≡ Ok (view x)
 Gives view (Err fault) read = read ≡ Err fault

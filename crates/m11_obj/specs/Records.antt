@@ -26,7 +26,7 @@ record_data (Relocations relocations) = word_bytes 4 ++ relocations_bytes reloca
 record_data InternalSymbols = word_bytes 5
 record_data EndOfModule = word_bytes 6
 
--- contents whose fields are in range and whose bytes fit into a block
+-- the fields of a content are in range, and the bytes of its record fit into a block
 abbrev pub Fits : Content → Type 0
 Fits (Gsd entries) = (length entries ≤ entry_limit) × EntriesFit entries
 Fits (Text address bytes) = (address < 2 ^ 16) × (length bytes + 4 ≤ content_limit)
@@ -34,7 +34,7 @@ Fits (Relocations relocations) =
     (length (relocations_bytes relocations) + 2 ≤ content_limit) × RelocationsFit relocations
 Fits _ = Unit {0}
 
--- records with fields; the others are written as only a type word, and any bytes after it are ignored
+-- the record of this content has fields; any other record is written as only a type word, and bytes after that are ignored
 abbrev pub HasFields : Content → Type 0
 HasFields (Gsd entries) = Unit {0}
 HasFields EndOfGsd = ⊥

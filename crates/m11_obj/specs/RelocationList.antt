@@ -4,7 +4,7 @@ use Rattle.m11_obj.specs.declared.relocations.Relocation.{Relocation}
 use Rattle.m11_obj.specs.declared.relocations.Target.{Target}
 use Rattle.m11_obj.specs.declared.relocations.Target.TheVariants.{LocationCounterDefinition, LocationCounterModification, ProgramLimits}
 
--- whether a command has a byte form: each one that stores a value of one word has
+-- whether a command has a byte form: each command that stores a value of one word has one
 abbrev pub has_byte_form : Target → Bool
 has_byte_form (LocationCounterDefinition name constant) = false
 has_byte_form (LocationCounterModification constant) = false

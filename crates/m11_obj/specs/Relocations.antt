@@ -43,7 +43,7 @@ abbrev pub optional_word : Option ℕ → Bytes
 optional_word None = []
 optional_word (Some word) = word_bytes word
 
--- the bit of a command byte that selects the byte form: octal 200
+-- the bit of a command byte that selects the byte form, octal 200; 0 for the word form
 abbrev pub byte_form : Bool → ℕ
 byte_form is_byte = if is_byte then 0o200 else 0
 
@@ -68,7 +68,7 @@ abbrev pub FormExists : Bool → Target → Type 0
 FormExists true target = HasByteForm target
 FormExists false target = Unit {0}
 
--- a relocation whose fields fit into its bytes, and whose form exists
+-- the fields of a relocation fit into its bytes, and its form exists
 pub record RelocationFits (relocation : Relocation) : Type 0 where
   pub form : FormExists relocation.is_byte relocation.target
   pub displacement : relocation.displacement < 2 ^ 8

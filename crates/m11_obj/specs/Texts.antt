@@ -56,7 +56,7 @@ abbrev pub location_after : Piece → List Piece → ℕ
 location_after first [] = last_location first + 1
 location_after first (next ∷ rest) = location_after next rest
 
--- the text of its first piece and the others; `before` is the section of the text before it, if there is one
+-- the text of these pieces, a first one and the rest; `before` is the section of the preceding text, if there is one
 abbrev pub text_of : Option Name → Piece → List Piece → TextParts
 text_of before first rest = record {
   before = before;
@@ -81,7 +81,7 @@ is_in_section (Some before) section = is_same_name before section
 abbrev pub selection : Name → ℕ → Content
 selection section location = Relocations (relocation false 0 (LocationCounterDefinition section location) ∷ [])
 
--- the record of the relocations, which follows the text, if there are any
+-- the record of these relocations, which follows the text record; no record if there are no relocations
 abbrev pub relocation_records : List Relocation → List Content
 relocation_records [] = []
 relocation_records (first ∷ rest) = Relocations (first ∷ rest) ∷ []

@@ -18,7 +18,7 @@ pub record ReadText : Type 0 where
   pub bytes : Bytes
   pub relocations : List Relocation
 
--- the section that is selected after a relocation: command 7 selects another one, and no other command does
+-- the section that is selected after a relocation: the section that command 7 names; after any other command, the same section as before
 abbrev pub selected : Name → Target → Name
 selected section (LocationCounterDefinition name location) = name
 selected section target = section

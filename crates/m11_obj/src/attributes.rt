@@ -14,7 +14,7 @@ pub struct Attribute {
     pub name: [u8; 6],
     /// The bit that it sets or clears.
     pub bit: SectionFlags,
-    /// Whether the bit is set.
+    /// Whether the attribute sets the bit; otherwise it clears the bit.
     pub is_set: bool,
 }
 

@@ -9,7 +9,7 @@ use crate::fault::RecordFault;
 use crate::relocations::Target;
 use m11_base::Name;
 
-/// The commands with a constant.
+/// The commands with a constant and no name.
 #[derive(Clone, Copy, Debug, PartialEq, Eq)]
 pub(crate) enum ConstantCommand {
     Internal,
@@ -17,7 +17,7 @@ pub(crate) enum ConstantCommand {
     LocationCounterModification,
 }
 
-/// The commands with a name.
+/// The commands with a name and no constant.
 #[derive(Clone, Copy, Debug, PartialEq, Eq)]
 pub(crate) enum NameCommand {
     Global,

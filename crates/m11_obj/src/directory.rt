@@ -24,7 +24,7 @@ pub enum DirectoryRow {
     Module(Name),
     /// The identification of the module.
     Identification(Name),
-    /// A section, its attributes, and its size in bytes. The definitions after it belong to it.
+    /// A section, its attributes, and its size in bytes. The definitions after it, up to the next section, belong to it.
     Section {
         name: Name,
         flags: SectionFlags,
@@ -107,7 +107,8 @@ fn reference_flags(is_weak: bool) -> u8
     if is_weak { SymbolFlags::WEAK.bits() } else { 0 }
 }
 
-/// The entries, at most 15, that are waiting: until a further row is accepted when their record is full, or until the directory ends.
+/// The entries that are waiting to be returned as the next record, at most 15. The record is returned when it is full and a further
+/// row is accepted, or when the directory ends.
 #[derive(Drop)]
 pub struct OpenDirectory {
     slots: [GsdEntry; MOST_ENTRIES],

@@ -60,7 +60,8 @@ impl SectionFlags {
     );
 }
 
-/// The attributes of a global symbol: weak; defined by this module, which otherwise refers to it; relocated with its section.
+/// The flags of a global symbol. `DEFINED`: this module defines the symbol; if the bit is clear, the module refers to it. `WEAK`: the
+/// reference is weak. `RELOCATABLE`: the value is relocated with its section.
 #[derive(Clone, Copy, PartialEq, Eq, Debug)]
 pub struct SymbolFlags(u8);
 

@@ -34,8 +34,9 @@ impl OpenText {
         OpenText { text: None }
     }
 
-    /// Adds a piece to the open text, if there is one that the piece directly follows and that has room for it, and returns whether
-    /// it did. If so, this does what `accept` does, in less time, since no text is returned; otherwise nothing changes.
+    /// Adds a piece to the open text if there is one, the piece directly follows it, and it has room for the piece. Returns whether
+    /// the piece was added. If so, this call does what `accept` does, in less time, since no text is returned; otherwise nothing
+    /// changes.
     pub fn accept_within(&mut self, piece: &Piece) -> bool
         ensures takes { result ≡ true → (pieces : List Piece) (written : List Content) → IsOpenText pieces written self.old
             → IsOpenText (pieces ++ piece.now ∷ []) (written ++ records_in None) self.new }
@@ -51,8 +52,8 @@ impl OpenText {
         false
     }
 
-    /// Accepts a piece. If the piece doesn't directly follow the open text, or the text has no room for it, returns that text, to be
-    /// written, and opens another one with the piece; otherwise returns `None`.
+    /// Accepts a piece. If the piece doesn't directly follow the open text, or that text has no room for the piece, returns the text,
+    /// to be written, and opens another one with the piece; otherwise returns `None`. The first piece opens the first text.
     pub fn accept(&mut self, piece: &Piece) -> Option<Text>
         ensures { (pieces : List Piece) (written : List Content) → IsOpenText pieces written self.old
             → IsOpenText (pieces ++ piece.now ∷ []) (written ++ records_in result) self.new }

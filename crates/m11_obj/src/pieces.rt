@@ -97,7 +97,7 @@ impl StoredConstant {
         }
     }
 
-    // The number in the text: 0 if the linker replaces it.
+    // The number that a text holds for this constant: the constant, or 0 if the linker replaces it.
     fn standing(&self) -> u16
         ensures { result ≡ standing self.now.kind self.now.constant }
     {
@@ -137,7 +137,7 @@ impl PieceContent {
         }
     }
 
-    // The relocation of these bytes, if they have one, with this displacement.
+    // The relocation of this content, if it has one, with this displacement.
     pub(crate) fn relocation(&self, displacement: u8) -> Option<Relocation>
         ensures relocation { result ≡ relocation_at displacement self.now }
         ensures form { IfSome result (λ relocation. has_form relocation ≡ true) }

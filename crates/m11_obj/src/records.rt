@@ -25,7 +25,7 @@ pub enum RecordKind {
     EndOfGsd,
     /// 3: text: a load address and bytes.
     Text,
-    /// 4: relocations of the text before it.
+    /// 4: relocations of the text before them.
     Relocations,
     /// 5: the directory of internal symbols.
     InternalSymbols,
@@ -97,8 +97,8 @@ impl Record<'_> {
         content
     }
 
-    /// Relocations of the text before it, in order. Requires that their bytes and the type word fit into a block, and that each
-    /// relocation of a byte has a command with a byte form.
+    /// A record of relocations, in order, of the text before the record. Requires that their bytes and the type word fit into a
+    /// block, and that each relocation of a byte has a command with a byte form.
     pub fn relocations(relocations: &[Relocation]) -> Block
         requires room { length (relocations_bytes relocations.now) + 2 ≤ content_limit }
         requires form { All (λ relocation. FormExists relocation.is_byte relocation.target) relocations.now }
@@ -167,7 +167,7 @@ fn text_at(bytes: &[u8]) -> (u16, &[u8])
     }
 }
 
-// The bytes of a record's relocations. A record of another type has none.
+// The bytes of a record's relocations; none if it isn't a relocation record.
 fn relocation_bytes(bytes: &[u8]) -> &[u8]
     requires is { IsRecord bytes.now }
     requires fits { length bytes.now ≤ content_limit }
@@ -200,7 +200,7 @@ impl Record<'_> {
         kind_at(self.content)
     }
 
-    /// The number of directory entries; 0 for a record of another type.
+    /// The number of directory entries; 0 if the record isn't a directory record.
     pub fn entry_count(&self) -> usize
         ensures { result ≡ length (record_entries self.now) }
     {
@@ -236,14 +236,14 @@ impl Record<'_> {
         text_at(self.content).1
     }
 
-    /// The relocation at this index, if there is one. A record of another type has none. Each call reads from the beginning.
+    /// The relocation at this index, if there is one. Only a relocation record has relocations. Each call reads from the beginning.
     pub fn relocation(&self, index: usize) -> Option<Relocation>
         ensures { result ≡ slice_get (record_relocations self.now) index }
     {
         relocation_walk::relocation_at(relocation_bytes(self.content), index)
     }
 
-    /// An iterator over the relocations, in order. There are at most 255; a record of another type has none.
+    /// An iterator over the relocations, in order. There are at most 255, and none if the record isn't a relocation record.
     pub fn each_relocation(&self) -> relocation_walk::Relocations<'_>
         ensures all { result ≡ record_relocations self.now }
         ensures few { length result ≤ relocation_limit }
@@ -267,14 +267,14 @@ pub fn record_bytes(alloc: Global, record: &Record<'_>) -> Result<Vec<u8>, Alloc
 ///
 /// Errors, of which the first in the order of the bytes is returned: `UnknownType` for an unknown type of record or of entry,
 /// `Library` for record types 7 and octal 10, `MappedArray` for entry type 7, `Complex` for commands octal 17 and 217,
-/// `UnknownRelocation` for an unknown command or the byte form of one that has none, `BadName` for a word of a name from octal
-/// 175000 up, and `BadLength` if the bytes end before a field does.
+/// `UnknownRelocation` for an unknown command or the byte form of one that has none, `BadName` for a word of a name that is octal
+/// 175000 or more, and `BadLength` if the bytes end before a field does.
 #[inline]
 pub fn read_record(block: &Block) -> Result<Record<'_>, RecordFault>
     ensures read { result ≡ record_of block.now.items }
 
-    // The record read is the one that is written as these bytes, and every record so written is read, even if bytes that are
-    // ignored follow it.
+    // The record that is read is the one written as these bytes. Every record that is written in this way is read, even if ignored
+    // bytes follow it.
     ensures says { IfOk result SaysWhatIsWritten }
     ensures all { (content : Content) → IsRecordOf content block.now.items
         → (content_of block.now.items ≡ Ok content) × (result ≡ Ok block.now.items) }

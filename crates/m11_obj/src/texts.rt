@@ -25,7 +25,7 @@ const MOST_BYTES: usize = 32;
 /// A text: at most 32 bytes at consecutive locations of one section, and at most 120 bytes of relocations.
 #[derive(Drop)]
 pub struct Text {
-    // The section of the text before it, if there is one.
+    // The section of the preceding text, if there is one.
     before: Option<Name>,
     section: Name,
     location: u16,
@@ -62,7 +62,7 @@ fn relocation_size(relocation: Option<Relocation>) -> usize
 }
 
 impl Text {
-    /// A text of one piece. `before` is the section of the text before it, if there is one.
+    /// A text of one piece. `before` is the section of the preceding text, if there is one.
     pub(crate) fn start(before: Option<Name>, piece: &Piece) -> Text
         ensures { result ≡ text_of before piece.now [] }
     {
@@ -84,7 +84,7 @@ impl Text {
         self.section
     }
 
-    // The relocation of a piece that is added next, if it has one.
+    // The relocation that a piece has if it is added next; None if it has none.
     fn relocation(&self, piece: &Piece) -> Option<Relocation>
         ensures relocation { option_to_list result ≡ relocations_in self.now piece.now }
         ensures form { IfSome result (λ relocation. has_form relocation ≡ true) }

@@ -1,4 +1,4 @@
--- The bytes end inside a block exactly if they are a block's beginning after zeros.
+-- Bytes end inside a block if and only if they are zeros and then a beginning of a block.
 use Rattle.std.proofs.Common.{◌≡◌, ◌∙◌, ℕ, zero, suc, ◌+◌, ◌-◌, ◌/◌, ◌%◌, ◌<◌, ◌≤◌, cond, ltb, List, [], ◌∷◌, ◌++◌, length, sum, take, drop, replicate, Err, refl, sym, ap, subst, append_assoc, arith, inl, inr, ◌⊎◌}
 use Rattle.std.proofs.Math.Seq.{drop-length}
 use Rattle.std.proofs.lemmas.Bool.{le-ltb, lt-ltb, ltb-true, cases_lt}
@@ -13,7 +13,7 @@ use Rattle.m11_obj_blocks.proofs.ReadSteps.{Bytes, bind_err, chosen, done}
 use Rattle.m11_obj_blocks.proofs.FrameReads.{second_takes, second_inside, word_inside, closed_inside}
 use Rattle.m11_obj_blocks.proofs.BlockFrames.{count_again, block_parts, count_takes, content_takes, zero_in_front, nothing_read, begun}
 
--- ---- a block's beginning ends inside it
+-- ---- bytes that are a block's beginning end inside the block
 
 abbrev low_of : List ℕ → ℕ
 low_of content = (length content + 4) % 256
@@ -83,7 +83,7 @@ cut_read bytes c =
     ap first_block c.is ∙ zeros_in_front c.zeros c.part
     ∙ cut_inside c.content c.part c.missing c.fits c.some c.cut (sym (block_parts c.content []) ∙ is)
 
--- ---- what ends inside a block is a block's beginning
+-- ---- bytes that end inside a block are a block's beginning
 
 count_of_inside : (length : ℕ) (bytes : List ℕ) → count_of length bytes ≡ Err Inside → ⊥
 count_of_inside length bytes e =
@@ -125,7 +125,7 @@ cut_by content part missing fits some cut e = record {
   is = refl;
 }
 
--- with a whole header
+-- bytes with a whole header, but not all of the bytes after it, are a beginning of a block
 cut_tail : (n : ℕ) (content tail missing : List ℕ) → length content ≡ n → n ≤ content_limit → 0 < length missing
     → content ++ last_of content ∷ [] ≡ tail ++ missing → IsCut (1 ∷ 0 ∷ (word_bytes (n + 4) ++ tail))
 cut_tail n content tail missing long fits cut e =
@@ -133,7 +133,7 @@ cut_tail n content tail missing long fits cut e =
     (ap (λ (xs : List ℕ). 1 ∷ 0 ∷ low_of content ∷ high_of content ∷ xs) e
     ∙ ap (λ (m : ℕ). 1 ∷ 0 ∷ (word_bytes (m + 4) ++ (tail ++ missing))) long)
 
--- a count whose length begins with a byte
+-- each byte is the low byte of the length in a valid header
 some_count : (low : ℕ) → low < 256 → (n : ℕ) × (n ≤ content_limit) × ((n + 4) % 256 ≡ low)
 some_count low small =
     elim (cases_lt low 4) [

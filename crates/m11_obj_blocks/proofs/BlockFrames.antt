@@ -1,4 +1,4 @@
--- What is read is a block of the format, and what is a block is read.
+-- Bytes that are read as blocks are blocks of the format, and blocks of the format are read.
 use Rattle.std.proofs.Common.{◌≡◌, ◌∙◌, ℕ, ◌+◌, ◌-◌, ◌≤◌, false, cond, ltb, List, [], ◌∷◌, ◌++◌, length, sum, take, drop, Ok, Err, refl, sym, ap, subst, append_assoc, arith, inl, inr, ◌⊎◌}
 use Rattle.std.proofs.Math.Seq.{take-append_seam, drop-append_seam}
 use Rattle.std.proofs.lemmas.Bool.{le-ltb, ltb-false}
@@ -46,7 +46,7 @@ pub block_again : (content rest : List ℕ) → length content ≤ content_limit
     → first_block (block content ++ rest) ≡ Ok (content, rest)
 block_again content rest fits = ap first_block (block_parts content rest) ∙ parts_again content rest fits
 
--- ---- what is read is a block
+-- ---- bytes that are read are a block
 
 count_of_takes : (length n : ℕ) (bytes rest : List ℕ) → count_of length bytes ≡ Ok (n, rest)
     → (n ≤ content_limit) × (length ≡ n + 4) × (bytes ≡ rest)
@@ -87,7 +87,7 @@ content_takes n bytes xs rest e =
           )
     ]
 
--- after the 001 of a block
+-- if bytes after a 001 are read as a content and a rest, the 001 and these bytes are the block with this content and the rest
 block_after : (bytes content rest : List ℕ) → Bytes bytes → after_start (tt, bytes) ≡ Ok (content, rest)
     → (length content ≤ content_limit) × (1 ∷ bytes ≡ block content ++ rest)
 block_after bytes content rest small e =
@@ -121,14 +121,14 @@ pub nothing_read : first_block [] ≡ Err Between
 unfolding first_block
 nothing_read = refl
 
--- blocks are read
+-- bytes that are blocks of the format are read as these blocks
 pub blocks_read : (contents : List (List ℕ)) (bytes : List ℕ) → AreBlocks contents bytes → AreRead contents bytes
 blocks_read _ _ Nothing = nothing_read
 blocks_read contents _ (Zero {bytes = bytes} h) = zero_read contents bytes (blocks_read contents bytes h)
 blocks_read _ _ (Block {contents = contents} {bytes = bytes} content fits h) =
     (bytes, block_again content bytes fits, blocks_read contents bytes h)
 
--- how the first byte is taken
+-- a first byte 0 is skipped, 1 begins a block, and any other byte is refused
 pub begun : (byte : ℕ) (bytes : List ℕ) → ((byte ≡ 0) × (first_block (byte ∷ bytes) ≡ first_block bytes))
     ⊎ (((byte ≡ 1) × (first_block (byte ∷ bytes) ≡ after_start (tt, bytes)))
     ⊎ (first_block (byte ∷ bytes) ≡ Err (Refused fault.BadStart bytes)))
@@ -142,7 +142,7 @@ begun byte bytes =
       ]
     ]
 
--- what is read from a beginning is a block after zeros
+-- if a first block is read, the bytes before the rest are zeros and this block
 framed : (bytes content rest : List ℕ) → Bytes bytes → first_block bytes ≡ Ok (content, rest)
     → Bytes rest × ((contents : List (List ℕ)) → AreBlocks contents rest → AreBlocks (content ∷ contents) bytes)
 framed [] content rest small e = absurd (let bad = sym nothing_read ∙ e in cc)
@@ -220,7 +220,7 @@ nothing_framed (byte ∷ bytes) e =
       ]
     ]
 
--- what is read is blocks
+-- bytes that are read as blocks are blocks of the format
 pub blocks_framed : (contents : List (List ℕ)) (bytes : List ℕ) → Bytes bytes → AreRead contents bytes
     → AreBlocks contents bytes
 blocks_framed [] bytes small e = nothing_framed bytes e

@@ -12,14 +12,14 @@ use Rattle.m11_obj_blocks.proofs.FrameReads.{word_again}
 use Rattle.m11_obj_blocks.proofs.Limits.{took_nothing, took_then, first_stops, reads_after, stops_after, then_reads, then_stops}
 use Rattle.m11_obj_blocks.proofs.Limits.{missing_stops as stops_missing}
 
--- a byte is missing inside a block
+-- if the bytes read end inside a block, and no further byte is returned, the read stops with the fault for this
 pub missing_stops : {A : Type 0} (read : List ℕ → Read BlockFault A) (a b : Position) (given : List ℕ) (why : Lack)
     → TookThenLacks a b given why → read given ≡ Err Inside → Stops read a b (why_of (missing why))
 missing_stops read a b given lack.Device lacks e = stops_missing read a b given lack.Device lacks e
 missing_stops read a b given lack.End lacks e = stops_missing read a b given lack.End lacks e
 missing_stops read a b given lack.TooMuch lacks e = stops_missing read a b given lack.TooMuch lacks e
 
--- its first byte is
+-- the same if not even the first byte of a part is returned
 pub first_missing : {A : Type 0} (read : List ℕ → Read BlockFault A) (a b : Position) (why : Lack) → Lacks a b why
     → read [] ≡ Err Inside → Stops read a b (why_of (missing why))
 first_missing read a b why lacks e = missing_stops read a b [] why (a, took_nothing a, lacks) e
@@ -29,7 +29,7 @@ first_missing read a b why lacks e = missing_stops read a b [] why (a, took_noth
 content_short : (count : ℕ) (bytes : List ℕ) → length bytes < count → content_of count bytes ≡ Err Inside
 content_short count bytes short = rw (lt-ltb (length bytes) count short) refl
 
--- a byte of it is missing, if none was ready
+-- if no byte of a content was ready, and no next byte is returned, the read of the content stops
 pub content_missing : (count taken : ℕ) (a b c d : Position) (content after : List ℕ) (why : Lack) → Took a b content
     → length content < count → taken ≡ 0 → TookInto b c content after taken → Lacks c d why
     → Stops (content_of count) a d (why_of (missing why))
@@ -65,9 +65,9 @@ after_second second = count second.1 >>= after_count
 abbrev pub after_start : Unit {0} × List ℕ → Read BlockFault (List ℕ)
 after_start start = second start.1 >>= after_second
 
--- ---- what stands before the content
+-- ---- the bytes before the content
 
--- the length of a content is read from the count, which is 4 larger
+-- the length of a content is read from the length in the header, which is 4 larger
 count_of_again : (n : ℕ) (rest : List ℕ) → n ≤ content_limit → count_of (n + 4) rest ≡ Ok (n, rest)
 count_of_again n rest fits =
     let least : ltb (n + 4) 4 ≡ false = le-ltb (n + 4) 4 (omega arith) in
@@ -80,7 +80,7 @@ count_again n rest fits =
     ap (λ (r : Read BlockFault ℕ). r >>= λ length. count_of length.0 length.1) (word_again (n + 4) rest (omega arith))
     ∙ count_of_again n rest fits
 
--- it is read part by part
+-- the bytes before the content are read part by part
 
 abbrev second_then : Unit {0} × List ℕ → Read BlockFault ℕ
 second_then second = count second.1
@@ -105,7 +105,7 @@ module _ (a b : Position) where
       pub front_read : (n : ℕ) → Reads count c d n → Reads front_of a d n
       front_read n r = then_reads start start_then a b d tt started n (then_reads second second_then b c d tt begun n r)
 
--- or all of it at once
+-- the four bytes before the content are read at once
 pub front_taken : (a b : Position) (n : ℕ) → n ≤ content_limit → Took a b (header n) → Reads front_of a b n
 front_taken a b n fits took = record { given = header n; took = took; is = λ rest. count_again n rest fits }
 
@@ -114,7 +114,7 @@ bind_twice : {A B C E : Type 0} (r : Result A E) (f : A → Result B E) (g : B �
 bind_twice (Ok x) f g = refl
 bind_twice (Err e) f g = refl
 
--- a block is what stands before its content, and then the others
+-- a block is read as the bytes before its content and then its other bytes
 abbrev by_front : List ℕ → Read BlockFault (List ℕ)
 by_front bytes = front_of bytes >>= after_count
 

@@ -1,4 +1,4 @@
--- What was read from a feed, one piece after another, joined.
+-- Bytes that were read from a feed one after another, joined.
 use Rattle.std.proofs.Common.{◌≡◌, ℕ, List, [], ◌++◌, Option, Some, None, Ok, Err, refl, sym, ap, subst, ◌∙◌, arith, append_assoc, length-append}
 use Rattle.m11_base.specs.Feed.{Text, GivesBytes}
 use Rattle.m11_obj_blocks.specs.declared.limited.Lack.{Lack}
@@ -6,7 +6,7 @@ use Rattle.m11_obj_blocks.specs.declared.limited.Lack.TheVariants as lack
 use Rattle.m11_obj_blocks.specs.Limited.{Position, Took, TookThenLacks, Stop, Between, Inside, Refused, Read, ◌>>=◌, IsShort, Why, Fails, EndsBetween, EndsInside, Passes, Refuses, Never, Reads, Stops}
 use Rattle.m11_obj_blocks.proofs.ReadSteps.{bytes_then}
 
--- ---- what was given
+-- ---- the bytes that were read
 
 gave_nothing : (t : Option Text) → GivesBytes t t []
 gave_nothing None = tt
@@ -33,7 +33,7 @@ pub lacks_then : (a b c : Position) (xs ys : List ℕ) (lack : Lack) → Took a 
     → TookThenLacks a c (xs ++ ys) lack
 lacks_then a b c xs ys lack first second = (second.0, took_then a b second.0 xs ys first second.1, second.2)
 
--- ---- reading goes on after what was given
+-- ---- reading goes on after bytes that were read
 
 module _ {Fault A : Type 0} (read read' : List ℕ → Read Fault A) (a b c : Position) (front : List ℕ)
     (took : Took a b front) (leads : (rest : List ℕ) → read (front ++ rest) ≡ read' rest) where
@@ -76,7 +76,7 @@ module _ {Fault A B : Type 0} (first : List ℕ → Read Fault A) (then : A × L
   on_error : (bytes : List ℕ) (stop : Stop Fault) → first bytes ≡ Err stop → both bytes ≡ Err stop
   on_error bytes stop e = ap (λ (r : Read Fault A). r >>= then) e
 
-  -- the first part gives no value
+  -- if the first part has no value, both together have none, for the same reason
   pub first_stops : (a b : Position) (why : Why Fault) → Stops first a b why → Stops both a b why
   first_stops a b Fails s = (s.0, s.1, short_on (first s.0) then s.2)
   first_stops a b EndsBetween s = (s.0, s.1, on_error s.0 Between s.2)
@@ -97,7 +97,7 @@ module _ {Fault A B : Type 0} (first : List ℕ → Read Fault A) (then : A × L
 
 -- ---- a byte is missing
 
--- why a call gives no value if one of its bytes doesn't come
+-- why a call has no value if one of its bytes isn't returned
 abbrev pub why_missing : {Fault : Type 0} → Lack → Why Fault
 why_missing lack.Device = Fails
 why_missing lack.End = EndsInside

@@ -1,4 +1,4 @@
--- Steps of a reading that did not fail, and how it ended.
+-- The steps of a read, and its result.
 use Rattle.std.proofs.Common.{◌≡◌, ℕ, ◌<◌, Bool, true, false, cond, eqb, List, [], ◌∷◌, ◌++◌, Result, Ok, Err, refl, ap, inl, inr, ◌⊎◌}
 use Rattle.std.specs.List.{AllByRecursion}
 use Rattle.std.proofs.lemmas.Bool.Decides.{eqb_tells}
@@ -28,7 +28,7 @@ pub bind_err : {A B E : Type 0} (r : Result A E) (f : A → Result B E) (stop : 
 bind_err {A} {B} {E} (Ok x) f stop e = inr (x, refl, e)
 bind_err {A} {B} {E} (Err other) f stop e = inl (ap (λ (s : E). Err s) (let same : other ≡ stop = cc in same))
 
--- the way that a test went
+-- a conditional value is that of the branch which its test selects
 pub chosen : {A : Type 0} (b : Bool) (x y z : A) → cond b x y ≡ z → ((b ≡ true) × (x ≡ z)) ⊎ ((b ≡ false) × (y ≡ z))
 chosen true x y z e = inl (refl, e)
 chosen false x y z e = inr (refl, e)
@@ -42,7 +42,7 @@ done x rest = Ok (x, rest)
 ok_is : {Fault A : Type 0} (x y : A × List ℕ) → whole {Fault = Fault} x ≡ whole y → x ≡ y
 ok_is x y e = cc
 
--- what was read is made of these parts
+-- if two results of a read are equal, so are the bytes after their values
 pub rest_is : {Fault A : Type 0} (x y : A) (xs ys : List ℕ) → done {Fault = Fault} x xs ≡ done y ys → xs ≡ ys
 rest_is {Fault} {A} x y xs ys e = ap (λ (p : A × List ℕ). p.1) (ok_is (x, xs) (y, ys) e)
 

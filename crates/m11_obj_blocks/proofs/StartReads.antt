@@ -1,4 +1,4 @@
--- Bytes are passed over up to the 001 that begins a block.
+-- Bytes are skipped up to the 001 that begins a block.
 use Rattle.std.proofs.Common.{◌≡◌, ◌∙◌, List, ℕ, [], ◌∷◌, ◌++◌, Ok, Err, sym, ap, subst, append_assoc}
 use Rattle.m11_obj_blocks.specs.declared.limited.Lack.TheVariants as lack
 use Rattle.m11_obj_blocks.specs.Limited.{Position, Took, Lacks, Between, Refused, Read, IsShort, Fails, EndsBetween, Passes, Refuses, Reads, Stops}

@@ -1,4 +1,4 @@
--- What is read is a tape of the format, and what is a tape is read.
+-- Bytes that are read as a tape are a tape of the format, and a tape of the format is read.
 use Rattle.std.proofs.Common.{◌≡◌, ◌≢◌, ◌∙◌, ℕ, ◌+◌, ◌-◌, ◌%◌, ◌<◌, ◌≤◌, false, cond, ltb, eqb, List, [], ◌∷◌, ◌++◌, length, sum, Ok, Err, refl, sym, ap, subst, append_assoc, arith, inl, inr, ◌⊎◌}
 use Rattle.std.proofs.lemmas.Bool.{le-ltb, ltb-false, ne_eqb, eqb-true}
 use Rattle.std.proofs.lemmas.Bool.Decides.{eqb_tells}
@@ -28,7 +28,7 @@ count_again n rest fits =
     let same : n + 6 - 6 ≡ n = omega arith in
     ap (λ (r : Read TapeFault ℕ). r >>= counted) (word_again (n + 6) rest (omega arith)) ∙ rw (least, same) refl
 
--- a total and its remainder have the same last byte
+-- a total and its remainder modulo 256 have the same sum byte
 pub same_closing : (total : ℕ) → closing (total % 256) ≡ closing total
 same_closing total = omega arith
 
@@ -37,7 +37,7 @@ summed_again xs rest =
     ap (λ (last : ℕ). summed (sum xs % 256) (last ∷ rest)) (sym (same_closing (sum xs)))
     ∙ closed_again fault.BadSum tt (sum xs % 256) rest
 
--- the bytes of a block, and the header read from them
+-- the bytes of a block are its start, count, address, data and sum byte
 pub block_parts : (address : ℕ) (xs rest : List ℕ) → tape_block address xs ++ rest
     ≡ 1 ∷ 0 ∷ (word_bytes (length xs + 6)
     ++ (word_bytes address ++ (xs ++ sum_byte (tape_header address (length xs) ++ xs) ∷ rest)))
@@ -80,7 +80,7 @@ transfer_again address rest lt =
     ∙ ap (λ (r : Read TapeFault (Unit {0})). r >>= λ last. Ok (Start address, last.1))
     (summed_again (tape_header address 0 ++ []) rest)
 
--- after the data of a block the next part is read
+-- after the data of a block, its sum byte is accepted and the next part is read
 pub after_again : (address : ℕ) (content rest : List ℕ)
     → next_part (total_of address content) (sum_byte (tape_header address (length content) ++ content) ∷ rest)
     ≡ first_part rest
@@ -108,14 +108,14 @@ pub other_skipped : (byte : ℕ) (bytes : List ℕ) → byte ≢ 1 → first_par
 unfolding first_part
 other_skipped byte bytes other = rw (ne_eqb byte 1 other) refl
 
--- the same is read by two readers that return the same
+-- if two readers return the same part, they read the same tape
 read_alike : (read read' : List ℕ → Read TapeFault TapePart) (blocks : List (ℕ × List ℕ)) (address : ℕ)
     (bytes bytes' : List ℕ)
     → read' bytes' ≡ read bytes → AreRead read blocks address bytes → AreRead read' blocks address bytes'
 read_alike read read' [] address bytes bytes' same h = (h.0, same ∙ h.1)
 read_alike read read' (block ∷ blocks) address bytes bytes' same h = (h.0, same ∙ h.1, h.2)
 
--- a tape is read
+-- bytes that are a tape of the format are read as this tape
 pub tape_read : (blocks : List (ℕ × List ℕ)) (address : ℕ) (bytes : List ℕ) → IsTape blocks address bytes
     → AreRead first_part blocks address bytes
 tape_read _ _ _ (Transfer address rest lt) = (rest, transfer_again address rest lt)
@@ -130,7 +130,7 @@ tape_read _ start _ (Block {blocks = blocks} {bytes = bytes} address content lt 
           (after_again address content bytes) (tape_read blocks start bytes h),
     )
 
--- ---- what is read is a tape
+-- ---- bytes that are read are a tape
 
 pub count_takes : (n : ℕ) (bytes rest : List ℕ) → Bytes bytes → count bytes ≡ Ok (n, rest)
     → (n ≤ data_limit) × (bytes ≡ word_bytes (n + 6) ++ rest) × Bytes rest
@@ -166,7 +166,7 @@ next_takes address content bytes x small e =
     let t = summed_takes (tape_header address (length content) ++ content) bytes last.0.1 small last.1 in
     (last.0.1, t.0, t.1, last.2)
 
--- the rest of a tape after the data of a block
+-- the bytes of a tape after the data of a block are its sum byte, and then the next parts
 after_takes : (address : ℕ) (content : List ℕ) (blocks : List (ℕ × List ℕ)) (start : ℕ) (bytes : List ℕ) → Bytes bytes
     → AreRead (next_part (total_of address content)) blocks start bytes
     → (rest : List ℕ) × (bytes ≡ sum_byte (tape_header address (length content) ++ content) ∷ rest) × Bytes rest
@@ -178,7 +178,7 @@ after_takes address content (block ∷ blocks) start bytes small h =
     let t = next_takes address content bytes (Data block.0 (length block.1), block.1 ++ h.0) small h.1 in
     (t.0, t.1, t.2, (h.0, t.3, h.2))
 
--- how the first byte is taken
+-- a first byte 1 begins a block, and any other byte is skipped
 pub begun : (byte : ℕ) (bytes : List ℕ) → ((byte ≡ 1) × (first_part (byte ∷ bytes) ≡ after_start (tt, bytes)))
     ⊎ ((byte ≢ 1) × (first_part (byte ∷ bytes) ≡ first_part bytes))
 unfolding first_part
@@ -249,7 +249,7 @@ data_address x y m n e = cc
 data_count : (x y m n : ℕ) → Data x m ≡ Data y n → m ≡ n
 data_count x y m n e = cc
 
--- a header of no data is that of the transfer block
+-- if the bytes after a 001 have a header and are read as the transfer block, the 001 and these bytes are a tape without blocks of data
 transfer_after : (bytes : List ℕ) (address : ℕ) (rest : List ℕ) → Heads bytes (Start address) rest
     → IsTape [] address (1 ∷ bytes)
 transfer_after bytes address rest h =
@@ -268,7 +268,8 @@ transfer_after bytes address rest h =
       | inr some ↦ absurd (let bad = value_is (Data h.address h.count) (Start address) h.following rest some.1 in cc)
     ]
 
--- a header of some data is that of a block
+-- if the bytes after a 001 have a header of data, and then the data, the right sum byte and a tape, the 001 and these bytes are a tape
+-- that begins with this block
 data_after : (bytes : List ℕ) (address n : ℕ) (following : List ℕ) → Heads bytes (Data address n) following
     → Bytes following × ((blocks : List (ℕ × List ℕ)) (start : ℕ) (content rest : List ℕ) → length content ≡ n
     → following ≡ content ++ sum_byte (tape_header address (length content) ++ content) ∷ rest
@@ -308,7 +309,7 @@ data_after bytes address n following h =
         above : (m : ℕ) → m ≢ 0 → 0 < m
         above m h = omega (arith, h)
 
--- the same after other bytes
+-- bytes that are read as the transfer block are a tape without blocks of data
 transfer_framed : (bytes : List ℕ) (address : ℕ) (rest : List ℕ) → Bytes bytes
     → first_part bytes ≡ Ok (Start address, rest) → IsTape [] address bytes
 transfer_framed [] address rest small e = absurd (nothing_read (Start address) rest e)
@@ -344,7 +345,7 @@ data_framed (byte ∷ bytes) address n following small e =
           )
     ]
 
--- what is read is a tape
+-- bytes that are read as a tape are a tape of the format
 pub tape_framed : (blocks : List (ℕ × List ℕ)) (address : ℕ) (bytes : List ℕ) → Bytes bytes
     → AreRead first_part blocks address bytes → IsTape blocks address bytes
 tape_framed [] address bytes small h = transfer_framed bytes address h.0 small h.1
@@ -360,7 +361,7 @@ sum-one_more : (xs ys : List ℕ) (byte : ℕ) → sum (xs ++ (ys ++ byte ∷ []
 sum-one_more xs ys byte =
     ap sum (sym (append_assoc xs ys (byte ∷ []))) ∙ sum_by-append (λ n. n) (xs ++ ys) (byte ∷ []) ∙ omega arith
 
--- a byte more of it was read
+-- after a further data byte, the stage is that of the block with this byte read
 pub opened_more : (address n byte : ℕ) (taken : List ℕ)
     → stage_within (n - length taken) (sum (tape_header address n ++ taken) % 256) (Ok byte)
     ≡ opened address n (taken ++ byte ∷ [])
@@ -373,7 +374,7 @@ opened_more address n byte taken =
     ap (λ (left : ℕ). InBlock left ((sum (tape_header address n ++ taken) % 256 + byte) % 256)) fewer
     ∙ ap (λ (t : ℕ). InBlock (n - length (taken ++ byte ∷ [])) t) total
 
--- all of it was read
+-- after all data bytes, none is left, and the total is that of the whole block
 pub opened_all : (address : ℕ) (content : List ℕ)
     → opened address (length content) content ≡ InBlock 0 (total_of address content)
 opened_all address content =

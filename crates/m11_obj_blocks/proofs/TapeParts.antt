@@ -12,19 +12,19 @@ use Rattle.m11_obj_blocks.specs.Tapes.{start, second, count, summed, total_of, t
 use Rattle.m11_obj_blocks.proofs.Limits.{took_nothing, first_stops, then_reads, then_stops}
 use Rattle.m11_obj_blocks.proofs.Limits.{missing_stops as stops_missing}
 
--- a byte is missing inside a block
+-- if the bytes read end inside a block, and no further byte is returned, the read stops with the fault for this
 missing_stops : {A : Type 0} (read : List ℕ → Read TapeFault A) (a b : Position) (given : List ℕ) (why : Lack)
     → TookThenLacks a b given why → read given ≡ Err Inside → Stops read a b (why_of (missing why))
 missing_stops read a b given lack.Device lacks e = stops_missing read a b given lack.Device lacks e
 missing_stops read a b given lack.End lacks e = stops_missing read a b given lack.End lacks e
 missing_stops read a b given lack.TooMuch lacks e = stops_missing read a b given lack.TooMuch lacks e
 
--- its first byte is
+-- the same if not even the first byte of a part is returned
 pub first_missing : {A : Type 0} (read : List ℕ → Read TapeFault A) (a b : Position) (why : Lack) → Lacks a b why
     → read [] ≡ Err Inside → Stops read a b (why_of (missing why))
 first_missing read a b why lacks e = missing_stops read a b [] why (a, took_nothing a, lacks) e
 
--- ---- other bytes and the start of a block
+-- ---- skipped bytes and the start of a block
 
 pub one_front : (byte : ℕ) → byte ≡ 1 → (rest : List ℕ) → start (byte ∷ rest) ≡ Ok (tt, rest)
 one_front byte e rest = rw e refl

@@ -61,7 +61,7 @@ AreRead [] bytes = first_block bytes ≡ Err Between
 AreRead (content ∷ contents) bytes =
     (rest : Bytes) × (first_block bytes ≡ Ok (content, rest)) × AreRead contents rest
 
--- zeros, and then at least the first byte of a block, but not all of its bytes
+-- these bytes are zeros, if any, and then at least the first byte of a block, but not all bytes of the block
 pub record IsCut (bytes : Bytes) : Type 0 where
   pub zeros : ℕ
   pub content : Bytes
@@ -96,26 +96,26 @@ abbrev pub ReadsPart : {X A : Type 0} → (X → A) → (Bytes → Read BlockFau
 ReadsPart view read old new (Ok x) = Reads read old new (view x)
 ReadsPart view read old new (Err e) = Stops read old new (why_of e)
 
--- the start of a block was read; or the bytes ended before one; or it wasn't read, for the reason that the fault shows
+-- the start of a block was read; or the bytes ended before a block; or the start wasn't read, for the reason that the fault shows
 abbrev pub ReadsStart : Position → Position → Result Bool BlockFault → Type 0
 ReadsStart old new (Ok true) = Reads start old new tt
 ReadsStart old new (Ok false) = Stops start old new EndsBetween
 ReadsStart old new (Err e) = Stops start old new (why_of e)
 
--- zeros and the four bytes before the content of a block were read; or the bytes ended before a block; or they weren't read, for
--- the reason that the fault shows
+-- the front of a block was read: any zeros, and the four bytes before its content; or the bytes ended before a block; or the front wasn't
+-- read, for the reason that the fault shows
 abbrev pub ReadsFront : Position → Position → Result (Option ℕ) BlockFault → Type 0
 ReadsFront old new (Ok (Some count)) = Reads front_of old new count
 ReadsFront old new (Ok None) = Stops front_of old new EndsBetween
 ReadsFront old new (Err e) = Stops front_of old new (why_of e)
 
--- a block was read; or the bytes ended before one; or it wasn't read, for the reason that the fault shows
+-- a block was read; or the bytes ended before a block; or no block was read, for the reason that the fault shows
 abbrev pub ReadsBlock : {X : Type 0} → (X → Bytes) → Position → Position → Result (Option X) BlockFault → Type 0
 ReadsBlock view old new (Ok (Some block)) = Reads first_block old new (view block)
 ReadsBlock view old new (Ok None) = Stops first_block old new EndsBetween
 ReadsBlock view old new (Err e) = Stops first_block old new (why_of e)
 
--- a block with this content was read; or the bytes ended before one; or it wasn't read, for the reason that the fault shows
+-- a block with this content was read; or the bytes ended before a block; or no block was read, for the reason that the fault shows
 abbrev pub ReadsInto : Bytes → Position → Position → Result Bool BlockFault → Type 0
 ReadsInto content old new (Ok true) = Reads first_block old new content
 ReadsInto content old new (Ok false) = Stops first_block old new EndsBetween
@@ -126,7 +126,7 @@ pub record BlockReading : Type 0 where
   pub room : ℕ
   pub has_failed : Bool
 
--- the number that a fault is reported by
+-- the number by which a fault is reported
 abbrev pub block_fault_number : BlockFault → ℕ
 block_fault_number fault.Device = 1
 block_fault_number fault.Truncated = 2

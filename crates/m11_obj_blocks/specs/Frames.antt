@@ -1,6 +1,6 @@
 -- Formatted binary: what the blocks of objects and of tapes have in common, and the blocks of an object. (RT-11 Volume and File
 -- Formats Manual, "Object file format", formatted binary blocks, and "Absolute binary file format".) Two things are this project's
--- own: that zero bytes may come before, between and after the blocks of an object, and that each block has at most 512 bytes of
+-- own: that bytes 000 may come before, between and after the blocks of an object, and that each block has at most 512 bytes of
 -- content.
 use Rattle.std.specs.Prelude.{ℕ, ◌+◌, ◌-◌, ◌*◌, ◌%◌, ◌≤◌, ◌==◌, List, [], ◌∷◌, ◌++◌, length, sum, Ok, Err, if◌then◌else◌}
 use Rattle.byteorder.specs.Endian.{little_bytes}
@@ -17,7 +17,7 @@ word_bytes word = little_bytes 2 word
 abbrev pub front : ℕ → Bytes
 front length = 1 ∷ 0 ∷ word_bytes length
 
--- the byte that makes this total a multiple of 256
+-- the byte that makes this total a multiple of 256 when it is added
 abbrev pub closing : ℕ → ℕ
 closing total = (256 - total % 256) % 256
 
@@ -60,7 +60,7 @@ block content = with_sum (header (length content) ++ content)
 abbrev pub content_limit : ℕ
 content_limit = 512
 
--- bytes that are blocks with these contents, in order, with zero bytes before, between and after them
+-- these bytes are blocks with these contents, in order; any number of bytes 000 may come before, between and after the blocks
 pub data AreBlocks : List Bytes → Bytes → Type 0 where
   Nothing : AreBlocks [] []
   Zero : {contents : List Bytes} {bytes : Bytes} → AreBlocks contents bytes → AreBlocks contents (0 ∷ bytes)

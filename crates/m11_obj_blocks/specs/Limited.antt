@@ -1,5 +1,5 @@
--- Reading a feed with a limit on its bytes, such as that of an object or a tape: the bytes read, why no more came, and the value
--- that a function on lists of bytes finds in them. (This project's own.)
+-- Reading an object or a tape from a feed, up to a limit on its bytes: the bytes read, why no more were returned, and the value that
+-- a function on lists of bytes finds in them. (This project's own.)
 use Rattle.std.specs.Prelude.{◌≡◌, ℕ, ◌+◌, ◌<◌, ◌++◌, length, ⊤, Option, Result, Ok, Err}
 use Rattle.std.specs.List.{AllByRecursion}
 use Rattle.m11_base.specs.Devices.{Bytes, Rises}
@@ -51,13 +51,13 @@ TookThenLacks old new given why = (middle : Position) × Took old middle given �
 -- ---- what a function on lists of bytes yields for the bytes read, and what a call then returns
 
 -- why bytes don't begin with a value: they end before it or inside it; or they are refused, with this fault and the bytes after the
--- one that shows it
+-- byte that shows the fault
 pub data Stop (Fault : Type 0) : Type 0 where
   Between : Stop Fault
   Inside : Stop Fault
   Refused : Fault → Bytes → Stop Fault
 
--- the value at the beginning, and the bytes after it; or why there is none
+-- the value at the beginning of some bytes, and the bytes after it; or why the bytes don't begin with a value
 abbrev pub Read : Type 0 → Type 0 → Type 0
 Read Fault A = Result (A × Bytes) (Stop Fault)
 
@@ -66,7 +66,7 @@ abbrev pub ◌>>=◌ : {A B E : Type 0} → Result A E → (A → Result B E) �
 (Ok x) >>= f = f x
 (Err e) >>= f = Err e
 
--- the bytes are too few to decide
+-- the bytes end before a value or inside one, and so are too few to decide
 abbrev pub IsShort : {Fault A : Type 0} → Read Fault A → Type 0
 IsShort (Ok x) = ⊥
 IsShort (Err Between) = ⊤

@@ -1,6 +1,6 @@
--- Tapes: the blocks of absolute binary, and reading them one after another, each fault the first in the order of the bytes. (RT-11 Volume
--- and File Formats Manual, "Absolute binary file format".) That any byte but 001 is skipped before a block, the limits, and the choice of
--- faults are this project's own choices.
+-- Tapes: the blocks of absolute binary, and reading them one after another, up to the first fault in the order of the bytes. (RT-11
+-- Volume and File Formats Manual, "Absolute binary file format".) That any byte but 001 is skipped before a block, the limits, and the
+-- choice of faults are this project's own choices.
 use Rattle.std.specs.Prelude.{◌≡◌, ◌≢◌, ◌==◌, ℕ, ◌+◌, ◌-◌, ◌%◌, ◌<◌, ◌≤◌, List, [], ◌∷◌, ◌++◌, length, sum, codes, ⊤, Result, Ok, Err, nat_lt, if◌then◌else◌}
 use Rattle.m11_base.specs.Devices.{Bytes}
 use Rattle.m11_obj_blocks.specs.declared.limited.Lack.{Lack}
@@ -28,8 +28,8 @@ tape_block address content = with_sum (tape_header address (length content) ++ c
 abbrev pub data_limit : ℕ
 data_limit = 65529
 
--- bytes with blocks of data, in order, each with its address, and then the transfer block, which has an address but no data; any
--- bytes but 001 may come before each block, and any bytes at all after the last
+-- these bytes are blocks of data, in order, each with its address, and then the transfer block, which has an address but no data; any
+-- bytes but 001 may come before each block, and any bytes at all after the transfer block
 pub data IsTape : List (ℕ × Bytes) → ℕ → Bytes → Type 0 where
   Transfer : (address : ℕ) (rest : Bytes) → address < 65536 → IsTape [] address (tape_block address [] ++ rest)
   Skipped : {blocks : List (ℕ × Bytes)} {address : ℕ} {bytes : Bytes} (byte : ℕ) → byte ≢ 1
@@ -59,7 +59,7 @@ count bytes = do
 abbrev pub summed : ℕ → Bytes → Read TapeFault (Unit {0})
 summed total bytes = closed fault.BadSum tt total bytes
 
--- the sum of a block's bytes but the last, modulo 256
+-- the sum of all bytes of a block but the last, modulo 256
 abbrev pub total_of : ℕ → Bytes → ℕ
 total_of address content = sum (tape_header address (length content) ++ content) % 256
 
@@ -97,8 +97,8 @@ abbrev pub PartFits : TapePart → Type 0
 PartFits (Data address count) = (0 < count) × (count ≤ data_limit)
 PartFits (Start address) = ⊤
 
--- the parts and bytes of a tape come one after another: the header of each block, its bytes, and after them the next part; at
--- the end the transfer block
+-- blocks with these addresses and data are read one after another: the header of each block, its data, and then the next part; at the
+-- end the transfer block with this address is read
 abbrev pub AreRead : (Bytes → Read TapeFault TapePart) → List (ℕ × Bytes) → ℕ → Bytes → Type 0
 AreRead read [] address bytes = (rest : Bytes) × (read bytes ≡ Ok (Start address, rest))
 AreRead read (block ∷ blocks) address bytes =
@@ -128,7 +128,8 @@ stage_after (Ok (Data address count)) = InBlock count (sum (tape_header address 
 stage_after (Ok (Start address)) = AtEnd address
 stage_after (Err e) = AfterFault
 
--- the stage after a read of a byte of the open block, or after a fault; before that read `left` bytes were still to come
+-- the stage after a data byte of the open block was read, or after a fault; before that, `left` data bytes were still to come, and `total`
+-- was the sum of the block's bytes so far, modulo 256
 abbrev pub stage_within : ℕ → ℕ → Result ℕ TapeFault → TapeStage
 stage_within left total (Ok byte) = InBlock (left - 1) ((total + byte) % 256)
 stage_within left total (Err e) = AfterFault
@@ -182,8 +183,8 @@ ReadsNext (InBlock left total) old new after result =
 ReadsNext (AtEnd address) old new after result = result ≡ Ok (Start address)
 ReadsNext AfterFault old new after result = result ≡ Err fault.Failed
 
--- a call for the next byte of the open block: its result, and the stage after it; after a fault it returns `Failed`, and without an
--- open block this says nothing
+-- a call for the next byte of the open block: its result, and the stage after it; after a fault the call returns `Failed`; nothing is
+-- said of a call before a block or after the transfer block
 abbrev pub ReadsByte : TapeStage → Position → Position → TapeStage → Result ℕ TapeFault → Type 0
 ReadsByte BeforeBlock old new after result = ⊤
 ReadsByte (InBlock left total) old new after result =
@@ -191,7 +192,7 @@ ReadsByte (InBlock left total) old new after result =
 ReadsByte (AtEnd address) old new after result = ⊤
 ReadsByte AfterFault old new after result = result ≡ Err fault.Failed
 
--- ---- the number and the name that a fault is reported by
+-- ---- the number and the name by which a fault is reported
 
 abbrev pub tape_fault_number : TapeFault → ℕ
 tape_fault_number fault.Device = 1

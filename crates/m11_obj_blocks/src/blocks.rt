@@ -95,7 +95,7 @@ fn read_sum<F: Feed>(feed: &mut F, room: &mut u32, content: &Block) -> Result<()
     Ok(())
 }
 
-// The length of a block's content, if these bytes begin with the four that come before it: 001, 000 and a valid length.
+// The length of a block's content, if these bytes begin with the block's first four: 001, 000 and a valid length; otherwise None.
 fn front_count(bytes: &[u8]) -> Option<u16>
     ensures { IfSome result (λ n. (n ≤ content_limit) × (4 ≤ length bytes.now) × (take 4 bytes.now ≡ header n)) }
 {
@@ -160,7 +160,7 @@ fn read_front<F: Feed>(feed: &mut F, room: &mut u32) -> Result<Option<u16>, Bloc
     }
 }
 
-// Reads a block, with its content in place of the old one. Returns false if the bytes end before a block.
+// Reads a block, and stores its content in place of the old one. Returns false if the bytes end before a block.
 fn read_block<F: Feed>(
     feed: &mut F,
     room: &mut u32,
@@ -179,8 +179,8 @@ fn read_block<F: Feed>(
     }
 }
 
-/// A reader reads exactly the blocks in the bytes, one after another. It finds the end inside a block if and only if the bytes left
-/// are zeros and then part of a block: at least its first byte, but not all of it.
+/// A reader reads exactly the blocks in the bytes, one after another. It finds that the bytes end inside a block if and only if the
+/// remaining bytes are zeros and then part of a block: at least its first byte, but not all of it.
 #[tactic(auto, using(crate::proofs::BlockFrames::blocks_read, crate::proofs::BlockFrames::blocks_framed, crate::proofs::BlockCuts::cut_read, crate::proofs::BlockCuts::read_cut))]
 pub fn blocks_are_read()
     ensures read { (contents : List (List ℕ)) (bytes : List ℕ)
@@ -246,8 +246,8 @@ impl BlockReader {
         }
     }
 
-    /// Reads the next block as `next` does, with its content into `block`, and returns whether there is one. If there is none, or
-    /// at a fault, `block` may hold anything.
+    /// Reads the next block as `next` does, but stores its content in `block`, and returns whether there is one. If there is none,
+    /// or if a fault is returned, `block` may hold anything.
     pub fn next_into<F: Feed>(
         &mut self,
         feed: &mut F,

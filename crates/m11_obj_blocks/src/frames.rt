@@ -39,7 +39,7 @@ pub(crate) fn closing_byte(total: u8) -> u8
     0u8.wrapping_sub(total)
 }
 
-/// A header, the content, and the byte that makes the sum of all of them a multiple of 256. Error: memory was refused.
+/// A header, the content, and the byte that makes the sum of all these bytes a multiple of 256. Error: memory was refused.
 pub(crate) fn summed_bytes(
     alloc: Global,
     header: &[u8],
@@ -73,7 +73,7 @@ pub(crate) fn block_sum(content: &[u8]) -> u8
     closing_byte(header_total.wrapping_add(sum_of(content)))
 }
 
-/// The bytes of the block with this content. Needs content of at most 512 bytes. Error: memory was refused.
+/// The bytes of the block with this content. Requires content of at most 512 bytes. Error: memory was refused.
 #[tactic(auto, using(crate::proofs::BlockFrames::block_again), unfolding(crate::specs::Frames::block))]
 pub fn block_bytes(alloc: Global, content: &[u8]) -> Result<Vec<u8>, AllocError>
     requires { length content.now ≤ content_limit }

@@ -1,5 +1,5 @@
 //! Formatted binary, the blocks of an object, each of at most 512 bytes of content; and absolute binary, the blocks of a tape. This
-//! crate makes the bytes of both, and reads both from feeds, whatever bytes come. (RT-11 Volume and File Formats Manual, "Object
+//! crate makes the bytes of both, and reads both from feeds with any bytes. (RT-11 Volume and File Formats Manual, "Object
 //! file format", formatted binary blocks, and "Absolute binary file format".)
 #![tactic(auto)]
 

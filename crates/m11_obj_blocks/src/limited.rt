@@ -43,7 +43,7 @@ pub(crate) fn next_byte<F: Feed>(feed: &mut F, room: &mut u32) -> Result<u8, Lac
     }
 }
 
-/// Reads the next word, its low byte first. If no high byte came, the low one has been read all the same.
+/// Reads the next word, its low byte first. If no high byte is returned, the low byte may have been read already.
 pub(crate) fn next_word<F: Feed>(feed: &mut F, room: &mut u32) -> Result<u16, Lack>
     ensures { let old = position (F.text feed.old) (F.faults feed.old) room.old in
         let new = position (F.text feed.new) (F.faults feed.new) room.new in
@@ -55,8 +55,8 @@ pub(crate) fn next_word<F: Feed>(feed: &mut F, room: &mut u32) -> Result<u16, La
     Ok(LittleEndian::read_u16(&[low, high]))
 }
 
-/// Moves ready bytes of a feed to the end of a block's content, at most `most` of them and only those within the limit. Returns how many:
-/// none if none is ready or none is within the limit.
+/// Moves ready bytes of a feed to the end of a block's content, at most `most` of them and only those within the limit. Returns the
+/// number of bytes moved, which is 0 if no byte is ready or none is within the limit.
 pub(crate) fn take_ready<F: Feed>(
     feed: &mut F,
     room: &mut u32,

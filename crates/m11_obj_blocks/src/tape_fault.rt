@@ -37,7 +37,7 @@ pub enum TapeFault {
 }
 
 impl TapeFault {
-    /// The fault's number, from 1 to 9.
+    /// The fault's number, from 1 to 9 but never 4.
     pub fn number(self) -> u8
         ensures { result ≡ tape_fault_number self }
     {

@@ -28,15 +28,14 @@ fn header(address: u16, count: u16) -> [u8; 6]
     [one, zero, low, high, position[0], position[1]]
 }
 
-/// The block of a tape that holds bytes, 1 to 65,529 of them, for an address and the addresses after it. Error: memory was
-/// refused.
+/// The block of a tape with these bytes, 1 to 65,529 of them, for an address and the addresses after it. Error: memory was refused.
 #[tactic(auto, unfolding(crate::specs::Tapes::tape_block))]
 pub fn tape_block(alloc: Global, address: u16, bytes: &[u8]) -> Result<Vec<u8>, AllocError>
     requires some { 0 < length bytes.now }
     requires fits { length bytes.now ≤ data_limit }
     ensures bytes { IfOk result (λ v. v.items ≡ tape_block address bytes.now) }
     ensures sum { IfOk result (λ v. sum v.items % 256 ≡ 0) }
-    // whatever comes after it, a reader reads these bytes back
+    // whatever bytes follow the block, a reader reads these bytes of data back
     ensures again { IfOk result (λ v. (rest : List ℕ) → IsReadAgain address bytes.now v.items rest) }
 {
     summed_bytes(alloc, &header(address, bytes.len() as u16), bytes)
@@ -48,7 +47,7 @@ pub fn tape_block(alloc: Global, address: u16, bytes: &[u8]) -> Result<Vec<u8>, 
 pub fn tape_transfer(alloc: Global, address: u16) -> Result<Vec<u8>, AllocError>
     ensures bytes { IfOk result (λ v. v.items ≡ tape_block address []) }
     ensures sum { IfOk result (λ v. sum v.items % 256 ≡ 0) }
-    // whatever comes after it, a reader reads this start back, and nothing after it
+    // whatever bytes follow the block, a reader reads this start back, and nothing after it
     ensures again { IfOk result (λ v.
         (rest : List ℕ) → first_part (v.items ++ rest) ≡ Ok (Start address, rest)) }
 {
@@ -249,10 +248,10 @@ impl TapeReader {
         MOST_BYTES.saturating_sub(self.room)
     }
 
-    /// Reads the next part: the header of a block of data, or the transfer block. First the sum of the preceding block is checked.
-    /// Needs none of that block's bytes to be left. Bytes other than 001 before a block are skipped. After the sum byte of the
-    /// transfer block nothing is read: each call returns `Start` again. A fault is the first in the order of the bytes; after it
-    /// each call returns `Failed` and reads nothing.
+    /// Reads the next part: the header of a block of data, or the transfer block. First the sum of the preceding block is checked, if
+    /// there is one. All data bytes of that block must have been read. Bytes other than 001 before a block are skipped. After the sum
+    /// byte of the transfer block nothing is read: each call returns `Start` again. A fault is the first in the order of the bytes;
+    /// after it each call returns `Failed` and reads nothing.
     pub fn next<F: Feed>(&mut self, feed: &mut F) -> Result<TapePart, TapeFault>
         requires { left_of self.old.stage ≡ 0 }
         ensures reads { ReadsNext self.old.stage
@@ -273,7 +272,7 @@ impl TapeReader {
         returned
     }
 
-    /// Reads the next byte of the open block. Needs a byte to be left, unless a fault was returned: after a fault each call
+    /// Reads the next data byte of the open block. A data byte must be left, unless a fault was returned: after a fault each call
     /// returns `Failed` and reads nothing.
     pub fn byte<F: Feed>(&mut self, feed: &mut F) -> Result<u8, TapeFault>
         requires { left_of self.old.stage ≡ 0 → self.old.stage ≡ AfterFault }

@@ -8,7 +8,7 @@ use Rattle.m11_obj.proofs.ReadBack.{Bytes, EachReads}
 use Rattle.m11_obj_laws.proofs.Steps.{bind_err}
 
 module _ {A : Type 0} (first : List ℕ → Result (A × List ℕ) RecordFault) (write : A → List ℕ) (P : A → Type 0) where
-  -- whole items, and then bytes from which no item can be read
+  -- the bytes consist of whole items, and then of bytes from which reading an item fails with this fault
   pub record StopsAfter (said : RecordFault) (bytes : List ℕ) : Type 0 where
     pub items : List A
     pub rest : List ℕ

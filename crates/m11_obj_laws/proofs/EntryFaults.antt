@@ -78,7 +78,7 @@ name_shows said bytes (NameCut name e is cut) =
     (cut_before (name_bytes name) (0 ∷ 0 ∷ word_bytes 0) bytes cut)
 name_shows said bytes (NoName e none) = subst (λ (f : RecordFault). ShowsInEntry f bytes) (sym e) none
 
--- an entry that is cut after its name
+-- if the bytes of an entry end after its name and before its end, they show that
 after_name : (said : RecordFault) (bytes : List ℕ) (name : (ℕ × ℕ) × List ℕ) (kind : GsdKind) (flags value : ℕ)
     → fault.BadLength ≡ said → NameStands bytes name → flags < 256 → value < 2 ^ 16
     → IsCut (flags ∷ kind_code kind ∷ word_bytes value) name.1 → ShowsInEntry said bytes

@@ -1,4 +1,4 @@
--- Bytes that end too early: more bytes after them change nothing else that is read.
+-- Unless bytes end too early, more bytes after them change nothing that is read.
 use Rattle.std.proofs.Common.{◌≡◌, ◌∙◌, ◌⊎◌, ℕ, ◌%◌, ◌<◌, Bool, true, false, cond, ltb, List, [], ◌∷◌, ◌++◌, length, Result, Ok, Err, refl, sym, ap, append-nil, arith, length-append, inl, inr}
 use Rattle.std.specs.Prelude.{nat_le}
 use Rattle.m11_base.specs.Rad50.{word_limit}
@@ -37,7 +37,7 @@ then_extends (Err fault) longer f more (inl e) g = inl cc
 then_extends {A} (Err fault) longer f more (inr e) g =
     inr (ap (λ (r : Result (A × List ℕ) RecordFault). r >>= f) e)
 
--- a step that reads no byte
+-- a step that reads no byte leaves this true
 between_extends : {A B : Type 0} (r : Result A RecordFault) (f g : A → Result (B × List ℕ) RecordFault) (more : List ℕ)
     → ((x : A) → Extends (f x) (g x) more) → Extends (r >>= f) (r >>= g) more
 between_extends (Ok x) f g more h = h x

@@ -15,7 +15,7 @@ use Rattle.m11_obj_laws.proofs.Steps.{bind_err, guard_err, word_refuses, word_cu
 
 -- ---- reading words and names
 
--- the value that was read is at the beginning of the bytes
+-- the bytes begin with those written for the value that was read
 pub record Stands {A : Type 0} (write : A → List ℕ) (P : A → Type 0) (bytes : List ℕ) (x : A × List ℕ) : Type 0 where
   pub is : bytes ≡ write x.0 ++ x.1
   pub following : Bytes x.1

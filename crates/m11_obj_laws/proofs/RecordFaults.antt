@@ -203,7 +203,7 @@ content_stops : (bytes : List ℕ) (said : RecordFault) → first_word bytes ≡
 unfolding content_of first_type
 content_stops bytes said e = rw e refl
 
--- there is no type, or there is one
+-- the bytes are too short for a type, or begin with one
 word_there : (bytes : List ℕ) → (length bytes < 2) ⊎ ((code : ℕ × List ℕ) × (first_word bytes ≡ Ok code))
 unfolding first_word
 word_there [] = inl (omega arith)

@@ -63,7 +63,7 @@ row_refuses said (suc (suc (suc (suc (suc (suc (suc (suc (suc (suc (suc (suc (su
     NoRow (cc)
     (above (suc (suc (suc (suc (suc (suc (suc (suc (suc (suc (suc (suc (suc (suc (suc (suc code)))))))))))))))) (omega arith) lt)
 
--- the command that is `more` above the last one
+-- no command from octal 20 up exists
 row_above : (more : ℕ)
     → row_of (suc (suc (suc (suc (suc (suc (suc (suc (suc (suc (suc (suc (suc (suc (suc (suc more))))))))))))))))
     ≡ Err fault.UnknownRelocation
@@ -136,7 +136,7 @@ later : (xs ys : List ℕ) → Bytes (xs ++ ys) → Bytes ys
 later [] ys h = h
 later (x ∷ xs) ys h = later xs ys h.1
 
--- with these bytes added, a target is read
+-- with these bytes added after them, the bytes are read as a whole target
 record Filled (form : Form) (bytes filling : List ℕ) : Type 0 where
   target : Target
   are : Bytes filling
@@ -179,7 +179,7 @@ word_small word = (omega arith, (omega arith, tt))
 name_small : (name : ℕ × ℕ) → Bytes (name_bytes name)
 name_small name = (omega arith, (omega arith, (omega arith, (omega arith, tt))))
 
--- a beginning of a target's bytes
+-- if bytes are a proper prefix of a target's bytes, a target is read from them with the missing bytes added
 filled_cut : (form : Form) (target : Target) (written bytes : List ℕ) → Bytes written
     → first_target form written ≡ Ok (target, []) → (cut : IsCut written bytes) → Filled form bytes cut.missing
 filled_cut form target written bytes are e cut = record {
@@ -193,7 +193,7 @@ short : (said : RecordFault) (form : Form) (target : Target) (written bytes : Li
 short said form target written bytes e are read cut =
     Short cut.missing e cut.some (filled_cut form target written bytes are read cut)
 
--- a target with zeros as its name or constant
+-- zeros are read as a target's name and constant
 filled_name : (target : ℕ × ℕ → Target) → Filled (Name target) [] (name_bytes (0, 0))
 filled_name target = record {
   target = target (0, 0);
@@ -290,7 +290,7 @@ target_refuses said (NameAndConstant target) bytes are e =
 
 -- ---- a refused relocation shows its fault
 
--- a command with this form, a displacement and a target are the bytes written for a relocation
+-- the command byte, the displacement and these bytes are those written for a relocation
 record Written (code displacement : ℕ) (bytes : List ℕ) (target : Target) : Type 0 where
   fits : RelocationFits (relocation_of code displacement target)
   is : code ∷ displacement ∷ bytes ≡ relocation_bytes (relocation_of code displacement target)
@@ -321,7 +321,7 @@ tail_is x y xs ys e = cc
 head_is : (x y : ℕ) (xs ys : List ℕ) → x ∷ xs ≡ y ∷ ys → x ≡ y
 head_is x y xs ys e = cc
 
--- a relocation that is cut, by the whole one whose beginning it is
+-- a proper prefix of the bytes written for a relocation shows that they end too early
 cut_shows : (said : RecordFault) (code displacement : ℕ) (bytes front filling : List ℕ) (target : Target)
     → fault.BadLength ≡ said → Written code displacement bytes target → 0 < length filling
     → code ∷ displacement ∷ bytes ≡ front ++ filling → ShowsInRelocation said front

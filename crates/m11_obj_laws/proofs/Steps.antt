@@ -44,7 +44,7 @@ word_ends (low ∷ high ∷ rest) lt = absurd (omega arith)
 
 -- ---- cuts
 
--- a cut text is also a cut one of a longer text
+-- a proper prefix of a text is also one of a longer text
 pub cut_before : (written others bytes : List ℕ) → IsCut written bytes → IsCut (written ++ others) bytes
 cut_before written others bytes c = record {
   missing = c.missing ++ others;
@@ -52,7 +52,7 @@ cut_before written others bytes c = record {
   split = ap (λ (xs : List ℕ). xs ++ others) c.split ∙ append_assoc bytes c.missing others;
 }
 
--- and of one with whole bytes before it
+-- a proper prefix stays one if the same bytes come before both
 pub cut_after : (front written bytes : List ℕ) → IsCut written bytes → IsCut (front ++ written) (front ++ bytes)
 cut_after front written bytes c = record {
   missing = c.missing;
@@ -60,11 +60,11 @@ cut_after front written bytes c = record {
   split = ap (λ (xs : List ℕ). front ++ xs) c.split ∙ sym (append_assoc front bytes c.missing);
 }
 
--- no bytes are a beginning of a byte and more
+-- the empty text is a proper prefix of any other
 pub cut_at_once : (byte : ℕ) (others : List ℕ) → IsCut (byte ∷ others) []
 cut_at_once byte others = record { missing = byte ∷ others; some = omega arith; split = refl }
 
--- fewer than two bytes are the beginning of a word below 256
+-- fewer than two bytes are a proper prefix of the two bytes of a word below 256
 pub word_cut : (bytes : List ℕ) → (length bytes < 2) → ((byte : ℕ) → (bytes ≡ byte ∷ []) → byte < 256)
     → (word : ℕ) × (word < 256) × IsCut (word_bytes word) bytes
 word_cut [] lt small = (0, omega arith, cut_at_once 0 (0 ∷ []))

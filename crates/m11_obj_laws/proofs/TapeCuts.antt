@@ -1,4 +1,5 @@
--- The bytes of a tape end inside a part exactly if they are a beginning of a part, after bytes that are skipped.
+-- The bytes of a tape end inside a part if and only if they are a prefix of a part, at least one byte but not all, after bytes that are
+-- skipped.
 use Rattle.std.proofs.Common.{◌≡◌, ◌≢◌, ◌∙◌, ℕ, ◌+◌, ◌*◌, ◌-◌, ◌/◌, ◌%◌, ◌<◌, ◌≤◌, ltb, eqb, List, [], ◌∷◌, ◌++◌, length, take, Err, refl, sym, ap, subst, append_assoc, arith, inl, inr, ◌⊎◌}
 use Rattle.std.proofs.Math.Seq.{take-append_seam}
 use Rattle.std.proofs.lemmas.Bool.{eqb-true, cases_lt}
@@ -19,7 +20,7 @@ use Rattle.m11_obj_laws.specs.TapeStops.{part_bytes, address_of, IsPartCut, IsCu
 use Rattle.m11_obj_laws.proofs.FrameFaults.{refusal}
 use Rattle.m11_obj_laws.proofs.TapeFaults.{after_last, nothing_read, skipped_in_front, right_after, between_skipped, skipped_between}
 
--- ---- bytes that are a part's beginning end inside it
+-- ---- a prefix of a part ends inside it
 
 one_byte : first_part (1 ∷ []) ≡ Err Inside
 unfolding first_part
@@ -63,13 +64,13 @@ begun_inside address n tail (a ∷ b ∷ c ∷ d ∷ f ∷ []) missing fits some
     rw (first, second, third, fourth) (length_and n (f ∷ []) fits refl)
 begun_inside address n tail (a ∷ b ∷ c ∷ d ∷ f ∷ g ∷ more) missing fits some few e = absurd (omega arith)
 
--- a beginning with the length of the first bytes is equal to them
+-- a prefix that is as long as the first bytes equals them
 pub same_front : (xs ys front missing : List ℕ) → length front ≡ length xs → xs ++ ys ≡ front ++ missing → front ≡ xs
 same_front xs ys front missing long e =
     sym (take-append_seam front missing) ∙ ap (λ (zs : List ℕ). take (length front) zs) (sym e)
     ∙ ap (λ (n : ℕ). take n (xs ++ ys)) long ∙ take-append_seam xs ys
 
--- the transfer block without its last byte
+-- the transfer block without its last byte ends inside the part
 pub whole_header : (address : ℕ) → address < 65536 → first_part (tape_header address 0) ≡ Err Inside
 unfolding transfer
 whole_header address lt = header_again address 0 [] lt (omega arith)
@@ -104,9 +105,9 @@ cut_read bytes c =
     ap first_part c.is ∙ skipped_in_front c.skipped c.front c.are
     ∙ part_inside c.part c.front c.missing c.in_range c.fits c.some c.cut c.split
 
--- ---- bytes that end inside a part are a part's beginning
+-- ---- bytes that end inside a part are a prefix of it
 
--- the beginning of a header, which is that of the transfer block if there is no data
+-- a nonempty proper prefix of a header is a prefix of a part, of the transfer block if the count of data is 0
 at_header : (address n : ℕ) (front missing : List ℕ) → address < 65536 → n ≤ data_limit → 0 < length front
     → 0 < length missing → tape_header address n ≡ front ++ missing → IsPartCut front
 at_header address n front missing lt fits some cut e =
@@ -159,7 +160,7 @@ cut_address n low fits small =
     at_header low n (1 ∷ 0 ∷ (word_bytes (n + 6) ++ low ∷ [])) (low / 256 % 256 ∷ []) (omega arith) fits (omega arith)
     (omega arith) (ap (λ (b : ℕ). 1 ∷ 0 ∷ (word_bytes (n + 6) ++ b ∷ low / 256 % 256 ∷ [])) first)
 
--- the transfer block without its last byte
+-- the transfer block without its last byte is a prefix of a part
 cut_sum : (address : ℕ) → address < 65536 → IsPartCut (tape_header address 0)
 cut_sum address lt = record {
   skipped = [];

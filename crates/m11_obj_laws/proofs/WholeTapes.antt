@@ -1,4 +1,4 @@
--- The reading of a tape stops exactly if the bytes show that it does.
+-- The reading of a tape stops if and only if the bytes show that it does.
 use Rattle.std.proofs.Common.{◌≡◌, ◌≢◌, ◌∙◌, ℕ, ◌-◌, ◌<◌, ◌≤◌, eqb, List, [], ◌∷◌, ◌++◌, length, replicate, sum, Ok, Err, refl, sym, ap, subst, append_assoc, arith, inl, inr}
 use Rattle.std.proofs.lemmas.Bool.{cases_lt}
 use Rattle.std.proofs.lemmas.List.{append-nil, length-append, length-replicate}
@@ -38,7 +38,7 @@ skipped_end : (bytes : List ℕ) → AreSkipped bytes → AfterBlocks (λ xs. xs
 skipped_end [] are = Here refl
 skipped_end (byte ∷ bytes) are = Skipped byte are.0 (skipped_end bytes are.1)
 
--- a header and a beginning of its data, perhaps all of it, are the beginning of a block
+-- a header and a prefix of its data, perhaps all of them, are a block that is cut short
 data_cut : (address n : ℕ) (following : List ℕ) → address < 65536 → n ≤ data_limit → length following ≤ n
     → IsBlockCut (tape_header address n ++ following)
 data_cut address n following lt fits short =
@@ -109,7 +109,7 @@ at_part (Refused said rest) bytes small e =
     subst P (sym s.split) (skip (ShowsStop (Refused said rest)) s.skipped s.following s.are
     (Here (shown_block said s.following rest s.shows)))
 
--- the header of a block of data
+-- after bytes that are skipped, the bytes begin with the header of a data block
 record Header (bytes : List ℕ) (address n : ℕ) (following : List ℕ) : Type 0 where
   pub skipped : List ℕ
   pub are : AreSkipped skipped
@@ -189,7 +189,7 @@ in_data stop bytes address n following small e short is =
     subst Q (sym is) (subst P (sym h.is) (skip (ShowsStop Inside) h.skipped (tape_header address n ++ following) h.are
     (Here (data_cut address n following h.in_range h.fits (omega (arith, short))))))
 
--- the last byte of a block shows a stop
+-- if the reading of a block's last byte stops, the bytes of the block show the stop
 sum_shows : (stop : Stop TapeFault) (address : ℕ) (content bytes : List ℕ) → address < 65536
     → length content ≤ data_limit → summed (total_of address content) bytes ≡ Err stop
     → ShowsStop stop (tape_header address (length content) ++ (content ++ bytes))

@@ -15,7 +15,7 @@ Shows fault.TooShort bytes rest = (low high : ℕ) × (low + 256 * high < 4) × 
 -- 001 000, then a length greater than a block may have
 Shows fault.TooLong bytes rest =
     (low high : ℕ) × (content_limit + 4 < low + 256 * high) × (bytes ≡ 1 ∷ 0 ∷ low ∷ high ∷ rest)
--- a block with content of an allowed length, and a wrong last byte
+-- a block with content of an allowed length, and a wrong checksum
 Shows fault.BadSum bytes rest = (content : List ℕ) × (byte : ℕ) × (length content ≤ content_limit)
     × (byte ≢ sum_byte (header (length content) ++ content))
     × (bytes ≡ (header (length content) ++ content) ++ byte ∷ rest)

@@ -23,7 +23,7 @@ pub record IsCut (written bytes : Bytes) : Type 0 where
 abbrev pub HasNoCharacters : ℕ → Type 0
 HasNoCharacters word = (word_limit ≤ word) × (word < 2 ^ 16)
 
--- instead of a name, there is a first or second word without characters; any bytes may follow
+-- the bytes begin with no valid name: their first word has no characters, or their second has none; any bytes may follow
 pub data BeginsNoName (bytes : Bytes) : Type 0 where
   First : (word : ℕ) (rest : Bytes) → HasNoCharacters word → bytes ≡ word_bytes word ++ rest → BeginsNoName bytes
   Second : (first second : ℕ) (rest : Bytes) → first < word_limit → HasNoCharacters second
@@ -47,11 +47,11 @@ ShowsInEntry other bytes = ⊥
 
 -- ---- entries of a relocation directory
 
--- commands below octal 200 that don't exist: 0, octal 13, and all from octal 20 on
+-- a command below octal 200 that doesn't exist: 0, octal 13, or octal 20 to 177
 abbrev pub IsNoCommand : ℕ → Type 0
 IsNoCommand command = (command ≡ 0) ⊎ (command ≡ 0o13) ⊎ ((0o20 ≤ command) × (command < 0o200))
 
--- commands that store nothing, or two words, and so have no byte form
+-- a command that stores nothing or two words, and so has no byte form: octal 7 to 11
 abbrev pub HasNoByteForm : ℕ → Type 0
 HasNoByteForm command = (0o7 ≤ command) × (command ≤ 0o11)
 
@@ -86,11 +86,11 @@ abbrev pub ShowsInRelocations : RecordFault → Bytes → Type 0
 ShowsInRelocations said bytes = (relocations : List Relocation) × (rest : Bytes) × RelocationsFit relocations
     × (0 < length rest) × ShowsInRelocation said rest × (bytes ≡ relocations_bytes relocations ++ rest)
 
--- record types that don't exist: 0, and all above octal 10
+-- a record type that doesn't exist: 0, or above octal 10
 abbrev pub IsNoType : ℕ → Type 0
 IsNoType type = (type ≡ 0) ⊎ ((0o10 < type) × (type < 2 ^ 16))
 
--- the record types of libraries
+-- a record type of libraries: octal 7 or 10
 abbrev pub IsLibraryType : ℕ → Type 0
 IsLibraryType type = (type ≡ 0o7) ⊎ (type ≡ 0o10)
 

@@ -7,7 +7,7 @@ use Rattle.m11_obj_blocks.specs.Tapes.{tape_header, total_of}
 use Rattle.m11_obj_blocks.specs.declared.tape_fault.TapeFault.{TapeFault}
 use Rattle.m11_obj_blocks.specs.declared.tape_fault.TapeFault.TheVariants as fault
 
--- a wrong sum byte after bytes with this sum
+-- a wrong checksum after bytes with this sum
 abbrev pub IsWrong : ℕ → ℕ → Type 0
 IsWrong total byte = byte ≢ closing total
 
@@ -17,7 +17,7 @@ abbrev pub Shows : TapeFault → List ℕ → List ℕ → Type 0
 Shows fault.BadStart bytes rest = (byte : ℕ) × (byte ≢ 0) × (bytes ≡ 1 ∷ byte ∷ rest)
 -- 001 000 and a count that leaves no room for the six bytes before the data
 Shows fault.TooShort bytes rest = (low high : ℕ) × (low + 256 * high < 6) × (bytes ≡ 1 ∷ 0 ∷ low ∷ high ∷ rest)
--- a transfer block with a wrong last byte
+-- a transfer block with a wrong checksum
 Shows fault.BadSum bytes rest = (address : ℕ) × (byte : ℕ) × (address < 65536) × IsWrong (total_of address []) byte
     × (bytes ≡ tape_header address 0 ++ byte ∷ rest)
 Shows other bytes rest = ⊥
@@ -33,7 +33,7 @@ pub record ShowsAfterSkipped (fault : TapeFault) (bytes rest : List ℕ) : Type 
   pub split : bytes ≡ skipped ++ following
   pub shows : Shows fault following rest
 
--- after the data of a block, if the sum of its bytes so far is `total`: a wrong sum byte, or the right one and then the fault
+-- after the data of a block, if the sum of its bytes so far is `total`: a wrong checksum, or the right one and then the fault
 pub data ShowsAfterData (total : ℕ) (said : TapeFault) (rest : List ℕ) : List ℕ → Type 0 where
   Wrong : (byte : ℕ) → IsWrong total byte → said ≡ fault.BadSum → ShowsAfterData total said rest (byte ∷ rest)
   Right : {bytes : List ℕ} → ShowsAfterSkipped said bytes rest → ShowsAfterData total said rest (closing total ∷ bytes)

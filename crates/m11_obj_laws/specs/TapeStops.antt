@@ -35,18 +35,20 @@ pub record IsPartCut (bytes : List ℕ) : Type 0 where
   pub cut : 0 < length missing
   pub is : bytes ≡ skipped ++ front
 
--- after the data of a block, if the sum of its bytes so far is `total`: nothing; or the right last byte, and then a part that is cut short
+-- after the data of a block, if the sum of its bytes so far is `total`: nothing; or the right checksum, and then a part that is cut
+-- short
 pub data IsCutAfterData (total : ℕ) : List ℕ → Type 0 where
   Nothing : IsCutAfterData total []
   Closed : {bytes : List ℕ} → IsPartCut bytes → IsCutAfterData total (closing total ∷ bytes)
 
--- after the data of a block, if the sum of its bytes so far is `total`: the right last byte, and then bytes that begin no block
+-- after the data of a block, if the sum of its bytes so far is `total`: the right checksum, and then bytes that begin no block
 abbrev pub EndsAfterData : ℕ → List ℕ → Type 0
 EndsAfterData total bytes = (rest : List ℕ) × (bytes ≡ closing total ∷ rest) × AreSkipped rest
 
 -- ---- a whole tape
 
--- parts are read one after another, with the data of each block between them, until this stop comes instead of a part or a byte of data
+-- parts are read one after another, with the data of each block between them, until the reading of a part or of a byte of data stops in
+-- this way
 pub data StopsFrom (stop : Stop TapeFault) : (List ℕ → Read TapeFault TapePart) → List ℕ → Type 0 where
   AtPart : {read : List ℕ → Read TapeFault TapePart} {bytes : List ℕ} → read bytes ≡ Err stop → StopsFrom stop read bytes
   InData : {read : List ℕ → Read TapeFault TapePart} {bytes : List ℕ} (address count : ℕ) (following : List ℕ)
@@ -64,7 +66,7 @@ pub data AfterBlocks (Kind : List ℕ → Type 0) : List ℕ → Type 0 where
       → length content ≤ data_limit → AfterBlocks Kind bytes → AfterBlocks Kind (tape_block address content ++ bytes)
 
 -- a prefix of a block, at least one of its bytes but not all; the block may be the transfer block, and is cut short inside its header,
--- inside its data, or before its last byte
+-- inside its data, or before its checksum
 pub record IsBlockCut (bytes : List ℕ) : Type 0 where
   pub address : ℕ
   pub content : List ℕ
@@ -81,14 +83,14 @@ abbrev pub IsNoBlock : TapeFault → List ℕ → List ℕ → Type 0
 IsNoBlock fault.BadStart bytes rest = (byte : ℕ) × (byte ≢ 0) × (bytes ≡ 1 ∷ byte ∷ rest)
 -- 001 000 and a count that leaves no room for the six bytes before the data
 IsNoBlock fault.TooShort bytes rest = (low high : ℕ) × (low + 256 * high < 6) × (bytes ≡ 1 ∷ 0 ∷ low ∷ high ∷ rest)
--- a block, which may be the transfer block, with a wrong last byte
+-- a block, which may be the transfer block, with a wrong checksum
 IsNoBlock fault.BadSum bytes rest = (address : ℕ) × (content : List ℕ) × (byte : ℕ) × (address < 65536)
     × (length content ≤ data_limit) × (byte ≢ closing (total_of address content))
     × (bytes ≡ tape_header address (length content) ++ (content ++ byte ∷ rest))
 IsNoBlock other bytes rest = ⊥
 
--- the bytes show why the tape can't be read further: there are none, and no transfer block came; a block is cut short; or they are not a
--- block
+-- the bytes show why the tape can't be read further: none are left, and no transfer block was read; or they are a block that is cut
+-- short; or they are not a block
 abbrev pub ShowsStop : Stop TapeFault → List ℕ → Type 0
 ShowsStop Between bytes = bytes ≡ []
 ShowsStop Inside bytes = IsBlockCut bytes

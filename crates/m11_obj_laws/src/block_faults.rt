@@ -10,8 +10,8 @@ ghost use Rattle.m11_obj_laws.specs.TapeFaults.{AreSkipped, ShowsAfterData, Show
 ghost use Rattle.m11_obj_blocks.specs.declared.block_fault.BlockFault.{BlockFault};
 ghost use Rattle.m11_obj_laws.specs.BlockFaults.{ShowsAfterZeros};
 
-/// The first fault found in the bytes of an object is the one that they show after zeros, and no later byte counts: a wrong checksum, a
-/// length that no block has, a byte that begins no block, or a byte other than 000 after 001.
+/// The first fault found when a block of an object is read is the one that the bytes show after zeros, and no later byte counts: a
+/// wrong checksum, a length that no block has, a byte that begins no block, or a byte other than 000 after 001.
 pub fn block_faults_are_shown()
     ensures shown { (fault : BlockFault) (bytes rest : List ℕ) → AllByRecursion (λ byte. byte < 256) bytes
         → first_block bytes ≡ Err (Refused fault rest) → ShowsAfterZeros fault bytes rest }
@@ -19,15 +19,15 @@ pub fn block_faults_are_shown()
         → first_block bytes ≡ Err (Refused fault rest) }
 {}
 
-/// The first fault found when a part of a tape is read is the one that the bytes show after bytes other than 001, and no later byte counts:
-/// a byte other than 000 after 001, a count that is too small, or a wrong checksum, of a transfer block or of the preceding data block. No
-/// block begins if and only if no byte is 001.
+/// The first fault found when a part of a tape is read is the one that the bytes show after bytes other than 001, and no later byte
+/// counts: a byte other than 000 after 001, a count that is too small, or a wrong checksum, of a transfer block or of the preceding
+/// data block. The bytes end before any block begins if and only if none of them is 001.
 pub fn tape_faults_are_shown()
     ensures shown { (fault : TapeFault) (bytes rest : List ℕ) → AllByRecursion (λ byte. byte < 256) bytes
         → first_part bytes ≡ Err (Refused fault rest) → ShowsAfterSkipped fault bytes rest }
     ensures found { (fault : TapeFault) (bytes rest : List ℕ) → ShowsAfterSkipped fault bytes rest
         → first_part bytes ≡ Err (Refused fault rest) }
-    // after the data of a block, if the sum of its bytes so far is `total`
+    // the bytes here come after the data of a block, and `total` is the sum of that block's bytes so far
     ensures shown_after { (total : ℕ) (fault : TapeFault) (bytes rest : List ℕ)
         → AllByRecursion (λ byte. byte < 256) bytes
         → next_part total bytes ≡ Err (Refused fault rest) → ShowsAfterData total fault rest bytes }

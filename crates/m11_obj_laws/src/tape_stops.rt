@@ -9,12 +9,12 @@ ghost use Rattle.m11_obj_blocks.specs.declared.tape_fault.TapeFault.{TapeFault};
 
 /// A tape ends inside a part if and only if its bytes, after bytes that are skipped, are a prefix of the header of a data block, or of
 /// the transfer block: at least its first byte, but not all of it. After the data of a block, it also ends inside a part if the block's
-/// last byte is missing, and it ends before a part if and only if that byte is right and no byte after it is 001.
+/// checksum is missing, and it ends before a part if and only if the checksum is right and no byte after it is 001.
 pub fn tape_cuts_are_shown()
     ensures cut { (bytes : List ℕ) → IsPartCut bytes → first_part bytes ≡ Err Inside }
     ensures inside { (bytes : List ℕ) → AllByRecursion (λ byte. byte < 256) bytes
         → first_part bytes ≡ Err Inside → IsPartCut bytes }
-    // after the data of a block, if the sum of its bytes so far is `total`
+    // the bytes here come after the data of a block, and `total` is the sum of that block's bytes so far
     ensures cut_after { (total : ℕ) (bytes : List ℕ) → IsCutAfterData total bytes
         → next_part total bytes ≡ Err Inside }
     ensures inside_after { (total : ℕ) (bytes : List ℕ) → AllByRecursion (λ byte. byte < 256) bytes
@@ -25,9 +25,9 @@ pub fn tape_cuts_are_shown()
         → next_part total bytes ≡ Err Between → EndsAfterData total bytes }
 {}
 
-/// The reading of a tape stops exactly where its bytes show it, after whole blocks and bytes that are skipped. There the bytes end without
-/// a transfer block; or they end inside a block, in its header, in its data or before its last byte; or a block has a byte other than 000
-/// after its 001, a count that is too small, or a wrong last byte, and no byte after that counts.
+/// The reading of a tape stops exactly where its bytes show it, after whole blocks and bytes that are skipped. There the bytes end
+/// without a transfer block; or they end inside a block, in its header, in its data or before its checksum; or a block has a byte other
+/// than 000 after its 001, a count that is too small, or a wrong checksum, and no byte after that counts.
 pub fn tape_stops_are_shown()
     ensures shown { (stop : Stop TapeFault) (bytes : List ℕ) → AllByRecursion (λ byte. byte < 256) bytes
         → StopsFrom stop first_part bytes → AfterBlocks (ShowsStop stop) bytes }

@@ -27,7 +27,7 @@ within (byte ∷ bytes) =
 pub length-line_of : (text : List ℕ) → length (line_of text) ≤ length text + 1
 length-line_of text = omega (arith, within text, length-append (without_last_blanks text) (10 ∷ []))
 
--- ---- no blank stands last
+-- ---- no blank comes last
 
 empty_has_no_last : (front : List ℕ) (last : ℕ) → [] ≡ front ++ last ∷ [] → ⊥
 empty_has_no_last [] last e = cc
@@ -72,7 +72,7 @@ ends_with_no_blank text front e =
     no_last_blank text front (append_cancel_right (without_last_blanks text) (front ++ 32 ∷ []) (10 ∷ [])
     (e ∙ sym (append_assoc front (32 ∷ []) (10 ∷ []))))
 
--- ---- a text that ends with no blank stands in its line whole
+-- ---- a text that doesn't end with a blank is in its line whole
 
 not_blank : (byte : ℕ) → (byte ≡ 32 → ⊥) → is_blank byte ≡ false
 not_blank byte other = grind (arith, nat_tests)

@@ -41,7 +41,7 @@ without_first : (names : List Bytes) (most : ℕ) → widths names ≤ most + 1 
 without_first [] most h = omega arith
 without_first (name ∷ names) most h = omega (arith, h, length-append name (marked comma names), after_commas names)
 
--- ---- of two attributes that decide the same bit, one holds
+-- ---- of two attributes that depend on the same bit, one is shown
 
 one_of : (b : Bool) (clear set : Bytes) (width most : ℕ) (more : List Bytes) → length clear ≤ width → length set ≤ width
     → widths more ≤ most
@@ -106,7 +106,7 @@ pub fits_first : (first before mark : Bytes) (rest : List Attribute) (none : Att
 fits_first first before mark [] none bits l has is h = absurd (omega arith)
 fits_first first before mark (row ∷ rows) none bits l has is h = fits first before mark row rows bits has is h
 
--- ---- when none is left
+-- ---- no attribute remains
 
 pub at_last : (first before mark : Bytes) (rest : List Attribute) (bits : ℕ) → length rest < 1
     → before ++ marked mark (names_among rest bits) ≡ first ++ attributes_text bits → length before ≤ length first + 20

@@ -1,4 +1,4 @@
--- The blanks that a line's end loses, one after another.
+-- The blanks that are removed from the end of a line, one after another.
 use Rattle.std.proofs.Common.{◌≡◌, ◌==◌, ◌+◌, ◌≤◌, ◌<◌, ℕ, true, false, List, [], ◌∷◌, ◌++◌, append-nil, length, refl, sym, subst, arith}
 use Rattle.std.proofs.lemmas.Bool.{false≢true}
 use Rattle.std.proofs.lemmas.Bool.Decides.{nat_tests}
@@ -13,7 +13,7 @@ not_blank byte other = grind (arith, nat_tests)
 one_more : (rest : List ℕ) (last : ℕ) → length (rest ++ last ∷ []) ≡ length rest + 1
 one_more rest last = length-append rest (last ∷ [])
 
--- there is room for a byte that was taken off
+-- after the last byte was removed, there is room for one byte
 pub room_again : (all bytes rest : List ℕ) (last : ℕ) → bytes ≡ rest ++ last ∷ [] → length bytes ≤ length all → length all ≤ 175
     → length rest < 175
 room_again all bytes rest last e le most =
@@ -29,7 +29,7 @@ shorter all bytes rest last e le =
     let l = subst Q (one_more rest last) (subst P e le) in
     omega (arith, l)
 
--- what a text yields after a last byte that was taken off
+-- removing a last blank doesn't change what remains without last blanks
 pub after_blank : (all bytes rest : List ℕ) (last : ℕ) → bytes ≡ rest ++ last ∷ [] → (last ≡ 32)
     → without_last_blanks bytes ≡ without_last_blanks all → without_last_blanks rest ≡ without_last_blanks all
 after_blank all bytes rest last e is i =
@@ -60,6 +60,6 @@ after_none all bytes rest h e i =
     let S : List ℕ → Type 0 = λ bs. bs ≡ rest in
     subst R (subst S (none_left bytes h) same) (subst R nothing_there (subst Q (none_left bytes h) i))
 
--- the line of an equal text
+-- equal texts have the same line
 pub line_at : (text other line : List ℕ) → other ≡ text → line ≡ line_of other → line ≡ line_of text
 line_at text other line e h = let P : List ℕ → Type 0 = λ bs. line ≡ line_of bs in subst P e h

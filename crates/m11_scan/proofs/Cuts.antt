@@ -10,7 +10,7 @@ either false = inr refl
 abbrev pub raw : List ℕ → Bool → RawLine
 raw bytes has_line_feed = record { bytes = bytes; has_line_feed = has_line_feed }
 
--- a cut after some whole lines
+-- a cut with these lines before its own
 abbrev after_lines : List RawLine → Cut → Cut
 after_lines lines c = record { lines = lines ++ c.lines; unclosed = c.unclosed }
 

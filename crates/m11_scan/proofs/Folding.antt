@@ -21,7 +21,7 @@ pub if_cong : {A : Type 0} {b c : Bool} {x y z w : A} → b ≡ c → x ≡ y �
     → (if b then x else z) ≡ (if c then y else w)
 if_cong p q r = λ i. if p i then q i else r i
 
--- characters
+-- a character in upper case is in the same classes as the character itself
 pub digit-folded : (byte : ℕ) → is_digit (folded byte) ≡ is_digit byte
 digit-folded byte = grind (arith, nat_tests)
 
@@ -43,7 +43,7 @@ folded-twice byte = grind (arith, nat_tests)
 digit-itself : (byte : ℕ) → is_digit byte ≡ true → folded byte ≡ byte
 digit-itself byte is = grind (arith, nat_tests)
 
--- runs
+-- a run in upper case has the same length, and digits are unchanged
 pub run-folded : (passes : ℕ → Bool) → ((byte : ℕ) → passes (folded byte) ≡ passes byte) → (text : List ℕ)
     → prefix_len passes (map folded text) ≡ prefix_len passes text
 run-folded passes same [] = refl
@@ -61,7 +61,7 @@ digits-folded (byte ∷ text) = elim (cases_Bool (is_digit byte)) [
   | inr other ↦ rw other refl
 ]
 
--- pieces
+-- a text in upper case has the same pieces as the text itself
 ending-folded : (digits : ℕ) (text : List ℕ) → number_ending digits (map folded text) ≡ number_ending digits text
 ending-folded digits [] = refl
 ending-folded digits (byte ∷ text) =
@@ -137,7 +137,7 @@ pieces_after-folded zero (byte ∷ text) =
     ∙ ap (λ ps. first_piece (byte ∷ text) ∷ ps) (pieces_after-folded ((first_piece (byte ∷ text)).length - 1) text)
 pieces_after-folded (suc left) (byte ∷ text) = pieces_after-folded left text
 
--- tokens
+-- the tokens of a line in upper case are those of the line itself, with their texts in upper case
 unfoldable pub folded_token : Lexeme → Lexeme
 folded_token token =
     record { sort = token.sort; start = token.start; end = token.end; text = map folded token.text }
@@ -183,7 +183,7 @@ skipped_between-folded line start end =
     ap has_skipped (text_between-folded line start end)
     ∙ ap (list_any (λ (piece : Piece). is_skipped piece.form)) (pieces_after-folded 0 (text_between line start end))
 
--- names
+-- a text in upper case has the same six characters of a name as the text itself
 character-folded : (text : List ℕ) (column : ℕ) → character_at (map folded text) column ≡ character_at text column
 character-folded text column =
     if_cong (ap (nat_lt column) (length-map text folded))

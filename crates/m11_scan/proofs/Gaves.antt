@@ -4,7 +4,7 @@ use Rattle.m11_base.specs.Feed.{Text, GivesByte, GivesBytes, GivesEnd}
 use Rattle.m11_scan.specs.Reader.{Gave}
 use Rattle.m11_scan.proofs.Cuts.{bytes_of}
 
--- the text is the same, or nothing is known about it
+-- reading no bytes of a source before an input makes no difference to what was read
 loosen : (t t' : Option Text) (ts new : List (Option Text)) (input : List (Option ℕ)) → GivesBytes t t' []
     → Gave (t' ∷ ts) new input → Gave (t ∷ ts) new input
 loosen (Some t) t' ts new input g h =

@@ -55,7 +55,7 @@ classes_kept false false true is_comment number name space comment mark one two 
 classes_kept false false false true number name space comment mark one two three four five = four
 classes_kept false false false false number name space comment mark one two three four five = five refl refl
 
--- a mark is a piece by itself, and no other character is
+-- a character that is a piece by itself is a token if it is a mark; otherwise it is skipped
 either_formed : (is : Bool) (sort : Sort) (others : Bool) (form : Form) → others ≡ not (is_skipped form)
     → (is || others) ≡ not (is_skipped (if is then Cut sort else form))
 either_formed true sort others form e = refl
@@ -189,7 +189,7 @@ classes_within false false true is_comment number name space comment mark n a b 
 classes_within false false false true number name space comment mark n a b c d e = absurd (true≢false d)
 classes_within false false false false number name space comment mark n a b c d e = e
 
--- such a piece ends before the first character that may be skipped
+-- a piece that begins with a character that is never skipped ends before the first character that may be skipped
 piece_within : (byte : ℕ) (rest : List ℕ) → is_kept byte ≡ true
     → (first_piece (byte ∷ rest)).length ≤ 1 + prefix_len is_kept rest
 unfolding first_piece

@@ -10,7 +10,7 @@ or_assoc : (a b c : Bool) → ((a || b) || c) ≡ (a || (b || c))
 or_assoc true b c = refl
 or_assoc false b c = refl
 
--- cutting a text off before further bytes come makes no difference
+-- if a text is cut to 132 characters before further bytes are added, the result is the same as if it is cut only afterwards
 module _ (xs ys : List ℕ) where
   together : length (xs ++ ys) ≡ length xs + length ys
   together = length-append xs ys

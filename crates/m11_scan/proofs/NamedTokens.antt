@@ -47,7 +47,7 @@ found form is = record { other = is.unnamed }
 none : IsOther None
 none = record { other = refl }
 
--- a property of two things holds for each choice of them
+-- if two values have a property, so has the one that a test chooses
 either : {A : Type 0} (P : A → Type 0) (test : Bool) (one other : A) → P one → P other → P (if test then one else other)
 either P true one other a b = a
 either P false one other a b = b
@@ -143,7 +143,7 @@ named_text (byte ∷ more) is =
     by_class (is_digit byte) (is_name_character byte) (list_all is_name_character more) (number_form more) _
     (number_other more).other (other_begins byte more).other is
 
--- the text of each token that is a name
+-- each token that is a name has characters of names alone
 abbrev AreNamed : List Lexeme → Type 0
 AreNamed [] = true ≡ true
 AreNamed (token ∷ tokens) =
@@ -175,7 +175,7 @@ named line column (piece ∷ pieces) le (next, cut) =
     (omega arith) (omega arith) (ap (λ n. form_of (take n (drop column line))) (sym size) ∙ next.form)
     (named line (column + piece.length) pieces (omega arith) (subst (IsCut pieces) (drop-drop piece.length column line) cut))
 
--- the next token from a column on, if it is a name
+-- if the first token at or after a column is a name, it has characters of names alone
 pub name_named : (line : List ℕ) (column : ℕ) (first : Lexeme) (tokens : List Lexeme) → column ≤ length line
     → tokens_from line column ≡ first ∷ tokens → first.sort ≡ Name → has_name_characters_alone first.text ≡ true
 name_named line column first tokens le stands name =

@@ -6,7 +6,7 @@ use Rattle.m11_scan.specs.declared.texts.Enclosed.{Enclosed}
 use Rattle.m11_scan.specs.Texts.{bracketed, inside, longer}
 use Rattle.m11_scan.specs.Grammar.{IsNested, Empty, Plain, Bracketed}
 
--- after n more characters
+-- an enclosed text with n more characters in front
 longer_by : ℕ → Enclosed → Enclosed
 longer_by zero enclosed = enclosed
 longer_by (suc count) enclosed = longer (longer_by count enclosed)
@@ -18,7 +18,7 @@ longer_by-add (suc n) m enclosed =
     let e : suc n + m ≡ suc (n + m) = omega arith in
     ap (λ k. longer_by k enclosed) e ∙ ap longer (longer_by-add n m enclosed)
 
--- a character that isn't a bracket
+-- a character that isn't a bracket makes the inside of the brackets longer by one
 plain_inside : (depth byte : ℕ) (text : List ℕ) → byte ≢ 60 → byte ≢ 62
     → inside depth (byte ∷ text) ≡ longer (inside depth text)
 plain_inside zero byte text a b = rw (ne_eqb byte 60 a, ne_eqb byte 62 b) refl

@@ -12,7 +12,7 @@ use Rattle.m11_scan.specs.Cutting.{Lexeme, lexemes_at, lexemes_from, pieces_afte
 use Rattle.m11_scan.specs.Skipped.{has_skipped, is_skipped}
 use Rattle.m11_scan.specs.Views.{lexeme}
 
--- characters that belong to an earlier piece are passed over
+-- the pieces after n characters of an earlier piece are the pieces of the text without these characters
 pub pieces_after-drop : (n : ℕ) (text : List ℕ) → pieces_after n text ≡ pieces_of (drop n text)
 pieces_after-drop zero text = refl
 pieces_after-drop (suc n) [] = refl
@@ -22,7 +22,7 @@ drop_first : (n byte : ℕ) (text : List ℕ) → 0 < n → drop n (byte ∷ tex
 drop_first zero byte text positive = absurd (omega arith)
 drop_first (suc n) byte text positive = let e : n ≡ suc n - 1 = omega arith in ap (λ m. drop m text) e
 
--- the pieces of a text are its first piece and those of the rest
+-- the pieces of a text that isn't empty are its first piece and the pieces of the rest
 pub pieces_of-first : (text : List ℕ) → 0 < length text → 0 < (first_piece text).length
     → pieces_of text ≡ first_piece text ∷ pieces_of (drop (first_piece text).length text)
 pieces_of-first [] nonempty begins = absurd (omega arith)
@@ -31,13 +31,14 @@ pieces_of-first (byte ∷ text) nonempty begins =
     (pieces_after-drop ((first_piece (byte ∷ text)).length - 1) text
     ∙ ap pieces_of (sym (drop_first (first_piece (byte ∷ text)).length byte text begins)))
 
--- the first piece of a slice from a column on is that of the line from the column on
+-- the first piece of the slice from a column to the end of a text is the first piece of the line without the characters before
+-- the column
 pub cut_from : (line text : List ℕ) (start : ℕ) (piece : Piece) → text ≡ line
     → piece ≡ first_piece (take (length text - start) (drop start text)) → piece ≡ first_piece (drop start line)
 cut_from line text start piece same is =
     is ∙ ap first_piece (take_rest text start ∙ ap (drop start) same)
 
--- a piece that isn't a token yields none
+-- a piece that isn't a token yields no token
 no_lexeme : (line : List ℕ) (start end : ℕ) (form : Form) → ((sort : Sort) → form ≡ Cut sort → ⊥)
     → lexemes_at line start end form ≡ []
 no_lexeme line start end (Cut sort) other = absurd (other sort refl)
@@ -60,7 +61,7 @@ module _ (line : List ℕ) (start : ℕ) (piece : Piece) (inside : start < lengt
       ++ lexemes_from line (start + piece.length) (pieces_of (drop (start + piece.length) line))
   next_lexemes = ap (lexemes_from line start) next_pieces
 
-  -- a token, and then those after it
+  -- if the piece at a column is a token, the tokens there are this one and those after it
   pub token_stands : (sort : Sort) → piece.form ≡ Cut sort
       → tokens_from line start
       ≡ lexeme line (record { sort = sort; start = start; end = start + piece.length })
@@ -69,7 +70,7 @@ module _ (line : List ℕ) (start : ℕ) (piece : Piece) (inside : start < lengt
       let rest : List Lexeme = tokens_from line (start + piece.length) in
       next_lexemes ∙ ap (λ f. lexemes_at line start (start + piece.length) f ++ rest) form
 
-  -- any other piece is followed by the tokens after it
+  -- if the piece at a column isn't a token, the tokens there are those after the piece
   pub other_stands : ((sort : Sort) → piece.form ≡ Cut sort → ⊥)
       → tokens_from line start ≡ tokens_from line (start + piece.length)
   other_stands other =
@@ -81,7 +82,7 @@ pub none_stands : (line : List ℕ) (start : ℕ) → length line ≤ start → 
 none_stands line start le =
     ap (λ text. lexemes_from line start (pieces_of text)) (drop_all start line le)
 
--- a skipped character, first or after the first piece
+-- a text has a skipped character if its first piece is one, or if the text after the first piece has one
 pub skipped_first : (text : List ℕ) (piece : Piece) → 0 < length text → piece ≡ first_piece text → 0 < piece.length
     → has_skipped text ≡ (is_skipped piece.form || has_skipped (drop piece.length text))
 skipped_first text piece nonempty is begins =

@@ -42,13 +42,13 @@ module _ (text : List ℕ) (p q : Piece) (a : IsNext p text) (b : IsNext q text)
   one_next : p ≡ q
   one_next = λ i. record { form = forms i; length = lengths i }
 
--- the longest beginning of a text that has a form by a test
+-- a text's first n characters are its longest prefix for which a test yields a form, and this is the form
 record Longest (test : List ℕ → Option Form) (text : List ℕ) (form : Form) (n : ℕ) : Type 0 where
   within : n ≤ length text
   has : test (take n text) ≡ Some form
   longest : (m : ℕ) → n < m → m ≤ length text → test (take m text) ≡ None
 
--- with one character before it
+-- with one more character in front, the longest prefix is longer by one, if the test of the longer text agrees with that of the rest
 longer : (test more_test : List ℕ → Option Form) (byte : ℕ) (text : List ℕ) (form : Form) (n : ℕ)
     → ((more : List ℕ) → test (byte ∷ more) ≡ more_test more) → Longest more_test text form n
     → (m : ℕ) → suc n < m → m ≤ suc (length text) → test (take m (byte ∷ text)) ≡ None
@@ -64,7 +64,7 @@ before test more_test byte text form n same l = record {
   longest = longer test more_test byte text form n same l;
 }
 
--- none, if each character after it is one too many
+-- if a test yields a form for the empty text, but for no other one, it yields none for a longer prefix
 none_after : (test : List ℕ → Option Form) (text : List ℕ) (form : Form) → test [] ≡ Some form
     → ((byte : ℕ) (more : List ℕ) → test (byte ∷ more) ≡ None)
     → (m : ℕ) → 0 < m → m ≤ length text → test (take m text) ≡ None
@@ -83,7 +83,7 @@ nothing test text form has stops = record {
 only_it : (form : Form) (text : List ℕ) → Longest (alone form) text form 0
 only_it form text = nothing (alone form) text form refl (λ byte more. refl)
 
--- the first character decides
+-- if a test yields a form for the empty text, but for no text with this first character, it yields none for a longer prefix
 first_decides : (test : List ℕ → Option Form) (byte : ℕ) (text : List ℕ) (form : Form) → test [] ≡ Some form
     → ((more : List ℕ) → test (byte ∷ more) ≡ None) → (m : ℕ) → 0 < m → m ≤ length (byte ∷ text)
     → test (take m (byte ∷ text)) ≡ None
@@ -98,7 +98,7 @@ stopped test byte text form has stops = record {
   longest = first_decides test byte text form has stops;
 }
 
--- at the end of the text
+-- an empty text has no longer prefix
 no_more : (test : List ℕ → Option Form) (m : ℕ) → 0 < m → m ≤ length {A = ℕ} [] → test (take m []) ≡ None
 no_more test zero lt le = absurd (omega arith)
 no_more test (suc m) lt le = absurd (omega arith)
@@ -106,7 +106,7 @@ no_more test (suc m) lt le = absurd (omega arith)
 at_end : (test : List ℕ → Option Form) (form : Form) → test [] ≡ Some form → Longest test [] form 0
 at_end test form has = record { within = omega arith; has = has; longest = no_more test }
 
--- a run
+-- the longest prefix of characters that all pass a test is the run of such characters at the beginning of the text
 one_more : (n : ℕ) → 1 + n ≡ suc n
 one_more n = omega arith
 
@@ -120,7 +120,7 @@ run passes form (byte ∷ text) = elim (cases_Bool (passes byte)) [
   | inr stop ↦ rw stop (stopped (all_pass passes form) byte text form refl (λ more. rw stop refl))
 ]
 
--- a limited number of characters
+-- the longest prefix of at most `count` characters has `count`, or all of them if the text has fewer
 too_many : (count : ℕ) (form : Form) (text : List ℕ) (m : ℕ) → count < m → m ≤ length text
     → at_most count form (take m text) ≡ None
 too_many count form text m lt le = rw (length-take-le m text le, lt-leb m count lt) refl
@@ -141,7 +141,7 @@ few count form text = elim (cases_lt count (length text)) [
       })
 ]
 
--- a piece that is the longest beginning
+-- a piece isn't empty, and is the longest prefix of the text for which a test yields a form
 record Next (test : List ℕ → Option Form) (text : List ℕ) (piece : Piece) : Type 0 where
   longest : Longest test text piece.form piece.length
   begins : 0 < piece.length
@@ -158,7 +158,7 @@ single : (test : List ℕ → Option Form) (byte : ℕ) (text : List ℕ) (form 
     → ((more : List ℕ) → test (byte ∷ more) ≡ alone form more) → Next test (byte ∷ text) (record { form = form; length = 1 })
 single test byte text form same = next_by test (alone form) byte text _ 0 refl same (only_it form text)
 
--- a character that counts as two if it is doubled
+-- the next piece that begins with a character that may be doubled: this character once or twice
 module _ (test : List ℕ → Option Form) (byte mark : ℕ) (one two : Sort)
     (same : (more : List ℕ) → test (byte ∷ more) ≡ doubled_form mark one two more) where
   doubled : (text : List ℕ) → Next test (byte ∷ text) (doubled_piece mark one two text)
@@ -170,7 +170,7 @@ module _ (test : List ℕ → Option Form) (byte mark : ℕ) (one two : Sort)
         (stopped (doubled_form mark one two) next text (Cut one) refl (λ more. rw once refl)))
   ]
 
--- a caret
+-- the next piece of a text that begins with `^`
 module _ (test : List ℕ → Option Form) (byte : ℕ) (same : (more : List ℕ) → test (byte ∷ more) ≡ caret_form more) where
   prefix_next : (flag : ℕ) (text : List ℕ) (sort : Sort) → ((more : List ℕ) → caret_form (flag ∷ more) ≡ alone (Cut sort) more)
       → Next test (byte ∷ flag ∷ text) (token sort 2)
@@ -205,7 +205,7 @@ module _ (test : List ℕ → Option Form) (byte : ℕ) (same : (more : List ℕ
     ]
   ]
 
--- the end of digits doesn't depend on the digits
+-- the form of a number doesn't depend on how many digits it has, and its length is their number plus the length of what ends them
 ending_form : (digits : ℕ) (text : List ℕ) → (number_ending digits text).form ≡ (number_ending 0 text).form
 ending_form digits [] = refl
 ending_form digits (byte ∷ text) = elim (cases_Bool (byte == 46)) [
@@ -227,7 +227,7 @@ ending_length digits (byte ∷ text) = elim (cases_Bool (byte == 46)) [
   ]
 ]
 
--- digits
+-- the longest prefix that continues a number has the digits at the beginning of the text and what ends them
 suc_first : (n m : ℕ) → suc n + m ≡ suc (n + m)
 suc_first n m = omega arith
 
@@ -266,7 +266,7 @@ number_next test byte text digit same =
     (ending_length (suc run_is) rest ∙ suc_first run_is (number_ending 0 rest).length) same
     (rw (ending_form (suc run_is) rest) (digits text)))
 
--- the piece by a condition
+-- if a condition chooses between two pieces, and the chosen one is the next piece, so is the result
 if_so : (test : List ℕ → Option Form) (text : List ℕ) (b : Bool) (yes' no' : Piece) → b ≡ true
     → Next test text yes' → Next test text (if b then yes' else no')
 if_so test text b yes' no' e next = subst (Next test text) (sym (cond-true b yes' no' e)) next
@@ -275,7 +275,7 @@ if_not : (test : List ℕ → Option Form) (text : List ℕ) (b : Bool) (yes' no
     → Next test text no' → Next test text (if b then yes' else no')
 if_not test text b yes' no' e next = subst (Next test text) (sym (cond-false b yes' no' e)) next
 
--- a character that doesn't begin a number, a name, a blank or a comment
+-- the next piece of a text whose first character begins no number and no name and is neither a blank, a tab nor `;`
 module _ (test : List ℕ → Option Form) (byte : ℕ) (same : (more : List ℕ) → test (byte ∷ more) ≡ marked_form byte more) where
   one_less : (n m : ℕ) → min (suc n) (suc m) ≡ suc (min n m)
   one_less n m = omega arith
@@ -316,7 +316,7 @@ comment : (byte : ℕ) (text : List ℕ) → ((more : List ℕ) → form_of (byt
 comment byte text same = next_by form_of (λ more. Some Comment) byte text _ (length text) refl same
     (record { within = omega arith; has = refl; longest = λ m lt le. absurd (omega arith) })
 
--- the form of a text by its first character
+-- the form of a text, in each class of its first character
 module _ (byte : ℕ) (more : List ℕ) where
   after_digit : is_digit byte ≡ true → form_of (byte ∷ more) ≡ number_form more
   after_digit digit = cond-true _ _ _ digit
@@ -339,7 +339,7 @@ module _ (byte : ℕ) (more : List ℕ) where
   after_mark digit name blank semicolon =
       cond-false _ _ _ digit ∙ cond-false _ _ _ name ∙ cond-false _ _ _ blank ∙ cond-false _ _ _ semicolon
 
--- the first piece of a text is the next one
+-- the first piece of a text is its next piece
 first_next : (byte : ℕ) (text : List ℕ) → Next form_of (byte ∷ text) (first_piece (byte ∷ text))
 unfolding first_piece
 first_next byte text = elim (cases_Bool (is_digit byte)) [

@@ -18,7 +18,7 @@ from_earlier size low high [] le o = omega arith
 from_earlier size low high (token ∷ tokens) le o =
     let first = o.0 in (omega arith, o.1, o.2)
 
--- one more piece
+-- if tokens after a piece are in order, so are these tokens and the piece's own, if it is a token
 with_piece : (line : List ℕ) (size start end : ℕ) (form : Form) (tokens : List Lexeme) → start < end
     → AreOrdered size end tokens → AreOrdered size start (lexemes_at line start end form ++ tokens)
 with_piece line size start end (Cut sort) tokens lt o = (omega arith, lt, o)
@@ -37,7 +37,7 @@ ordered line column (piece ∷ pieces) le (next, cut) =
     (lexemes_from line (column + piece.length) pieces) (omega arith)
     (ordered line (column + piece.length) pieces (omega arith) (subst (IsCut pieces) (drop-drop piece.length column line) cut))
 
--- the characters between two columns, and those after the second
+-- the characters between two columns, followed by those at or after the second, are those at or after the first
 between : (line : List ℕ) (start end : ℕ) → start ≤ end → end ≤ length line
     → text_between line start end ++ drop end line ≡ drop start line
 between line start end ordered within =
@@ -75,7 +75,7 @@ tokens_of-ordered line = ordered line 0 (pieces_of line) (omega arith) (pieces_o
 pub tokens_from-ordered : (line : List ℕ) (column : ℕ) → column ≤ length line → AreOrdered (length line) column (tokens_from line column)
 tokens_from-ordered line column le = ordered line column (pieces_of (drop column line)) le (pieces_of-cut (drop column line))
 
--- if no token begins here, the next one begins later
+-- if the piece at a column isn't a token, the next token begins after the column
 pub next_later : (line : List ℕ) (start : ℕ) (piece : Piece) → start < length line → piece ≡ first_piece (drop start line)
     → 0 < piece.length → start + piece.length ≤ length line → ((sort : Sort) → piece.form ≡ Cut sort → ⊥)
     → (token : Lexeme) (tokens : List Lexeme) → tokens_from line start ≡ token ∷ tokens → start < token.start

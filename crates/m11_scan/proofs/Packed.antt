@@ -11,7 +11,7 @@ or_of_not : (a b : Bool) → a ≡ true → (not a || b) ≡ b
 or_of_not true b e = refl
 or_of_not false b e = absurd cc
 
--- a character of names, in upper case, has a code
+-- whether a byte, if it is a character of names, has a code in upper case
 has_code_if : ℕ → Bool
 has_code_if byte = not (is_name_character byte) || is_some (code_of (folded byte))
 
@@ -29,7 +29,7 @@ blank_coded : is_some (code_of 32) ≡ true
 unfolding code_of alphabet
 blank_coded = refl
 
--- words of characters that have codes
+-- if three characters have codes, there is a word of them
 word_some : (a b c : Option ℕ) → is_some a ≡ true → is_some b ≡ true → is_some c ≡ true
     → is_some (word_of_codes a b c) ≡ true
 word_some (Some a) (Some b) (Some c) x y z = refl

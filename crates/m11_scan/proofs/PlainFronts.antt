@@ -1,4 +1,4 @@
--- A beginning of bytes that are characters of the line as they are.
+-- The bytes at the beginning of a text that a line contains unchanged.
 use Rattle.std.proofs.Common.{◌≡◌, arith, ℕ, suc, ◌+◌, Bool, true, false, cond, List, [], ◌∷◌, take, refl, arith}
 use Rattle.std.specs.Bool.{IsTrue}
 use Rattle.std.specs.List.{AllByRecursion, prefix_len}

@@ -9,7 +9,7 @@ use Rattle.m11_scan.specs.Lines.{HasNoLineFeed, RawLine, cleaned, cut, line_text
 use Rattle.m11_scan.specs.Classes.{is_plain}
 use Rattle.m11_scan.proofs.Cuts.{bytes_of, cut_joined, cut_line_feed, cut_open, raw}
 
--- ---- a byte that is a character of the line as it is
+-- ---- a byte that a line contains unchanged
 
 record Keeps (byte : ℕ) : Type 0 where
   no_nul : (byte == 0) ≡ false

@@ -1,4 +1,4 @@
--- A line whose bytes come in runs.
+-- The open line after bytes that are added in runs.
 use Rattle.std.proofs.Common.{◌≡◌, ℕ, ◌+◌, ◌-◌, Bool, true, false, List, [], ◌∷◌, ◌++◌, length, take, drop, refl, sym, ap, ◌∙◌, arith, append_assoc, subst}
 use Rattle.std.specs.Prelude.{◌==◌, ◌||◌, not}
 use Rattle.std.specs.Bool.{IsTrue}
@@ -24,7 +24,7 @@ pub with_all-append : (line : OpenLine) (xs ys : List ℕ) → with_all line (xs
 with_all-append line [] ys = refl
 with_all-append line (x ∷ xs) ys = with_all-append (with_byte line x) xs ys
 
--- ---- runs of bytes that are characters of the line as they are
+-- ---- runs of bytes that a line contains unchanged
 
 abbrev Plain : List ℕ → Type 0
 Plain bytes = AllByRecursion (λ byte. IsTrue (is_plain byte)) bytes

@@ -18,7 +18,7 @@ use Rattle.m11_scan.proofs.Cuts.{either, raw, bytes_of, cut_joined, cut_open, cu
 use Rattle.m11_scan.proofs.Gaves.{gave_none, gave_both, gave_bytes, gave_byte, gave_end}
 use Rattle.m11_scan.proofs.OpenLines.{at_line_feed, at_end, tells, stays_unbegun}
 
--- the sources read so far: no line was found, and none has begun
+-- some sources were read: no line was found, and none has begun
 pub record Seeks (old now : Position) (line : OpenLine) : Type 0 where
   pub given : List (Option ℕ)
   pub came : Came old now given
@@ -50,7 +50,7 @@ lines_in-push : (lines : List RawLine) (line : RawLine)
     → lines_in (lines ++ line ∷ []) ≡ lines_in lines + cond (is_line line) 1 0
 lines_in-push lines line = omega (arith, sum_by-append (λ l. cond (is_line l) 1 0) lines (line ∷ []))
 
--- one more source, with some bytes read from it
+-- the state after some bytes of the next source were read
 module _ (old now : Position) (line : OpenLine) (seeks : Seeks old now line) (text : Option Text)
     (texts : List (Option Text)) (fault : ℕ) (here : now.texts ≡ text ∷ texts) (middle : Source) (given : List ℕ)
     (took : Took (ltb 0 now.lines_left) (source text fault now.bytes_left line) middle given) where
@@ -91,7 +91,7 @@ module _ (old now : Position) (line : OpenLine) (seeks : Seeks old now line) (te
     faults = seeks.came.faults;
   }
 
-  -- a piece of the source is closed
+  -- the state after a line feed or the end of the source closes the piece
   module _ (last : Option ℕ) (has_line_feed : Bool) (new_texts : List (Option Text))
       (closes : cut (bytes_of given ++ last ∷ []) ≡ record { lines = raw given has_line_feed ∷ []; unclosed = [] })
       (gives : Gave (middle.text ∷ texts) new_texts (last ∷ [])) where

@@ -9,13 +9,13 @@ or_false : (b : Bool) → (b || false) ≡ b
 or_false true = refl
 or_false false = refl
 
--- the beginning is copied; the bytes after the line's characters don't matter
+-- if `size` bytes were copied, the first `count` of them are those of the source, whatever follows
 pub front_copied : (count size : ℕ) (front rest bytes : List ℕ) → count ≤ size → size ≤ length front
     → front ≡ take size bytes → take count (front ++ rest) ≡ take count bytes
 front_copied count size front rest bytes short within copied =
     take-append-le count front rest (omega arith) ∙ ap (take count) copied ∙ take-take count size bytes short
 
--- a short line begins
+-- a short text that is added to an empty line is added whole
 pub begun : (is_over_long : Bool) (count : ℕ) (text : List ℕ) → count ≤ 48 → count ≤ length text
     → record { text = take count text; is_over_long = is_over_long }
     ≡ with_bytes (record { text = []; is_over_long = is_over_long }) (take count text)

@@ -20,7 +20,7 @@ spelled-append base (digit ∷ front) back =
 last : (front base digit : ℕ) → front * base ^ 1 + (digit * base ^ 0 + 0) ≡ front * base + digit
 last front base digit = rw (pow-suc base 0, pow-zero base) (omega arith)
 
--- with one more digit
+-- with one more digit, the number is multiplied by the base and increased by the digit
 pub spelled-push : (base : ℕ) (digits : List ℕ) (i : ℕ) → i < length digits
     → spelled base (take (i + 1) digits) ≡ spelled base (take i digits) * base + (get_or digits i 0 - 48)
 spelled-push base digits i lt =
@@ -39,7 +39,7 @@ cut_before s base d =
     sym (mul-add-mod_self_right (s / 65536 * base) 65536 (s % 65536 * base + d))
     ∙ ap (λ n. n % 65536) (split ∙ ap (λ n. n * base + d) parts)
 
--- the step of the loop
+-- the step of the loop: `s` is the number so far, and `value` is the same number modulo 65536
 module _ (base s d value : ℕ) (least : 2 ≤ base) (is : value ≡ s % 65536) where
   pub next_value : (value * base + d) % 65536 ≡ (s * base + d) % 65536
   next_value = ap (λ v. (v * base + d) % 65536) is ∙ cut_before s base d
@@ -50,7 +50,7 @@ module _ (base s d value : ℕ) (least : 2 ≤ base) (is : value ≡ s % 65536) 
   small_is_whole : s < 65536 → value ≡ s
   small_is_whole lt = is ∙ mod-eq_of_lt lt
 
-  -- it passes the limit with this digit, or before
+  -- if the reduced number passes 65535 with this digit, so does the number itself
   pub passes : 65535 < value * base + d → true ≡ ltb 65535 (s * base + d)
   passes lt = sym (lt-ltb 65535 (s * base + d) (elim (cases_lt s 65536) [
     | inl small ↦ let same = ap (λ v. v * base + d) (small_is_whole small) in omega arith

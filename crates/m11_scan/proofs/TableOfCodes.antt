@@ -18,7 +18,7 @@ pub blank_code : code_or_none (code_of 32) ≡ 0
 unfolding code_of alphabet
 blank_code = refl
 
--- from codes to numbers and back
+-- a code that becomes a number, and a code again, is unchanged
 code_again : (code : Option ℕ) → ((c : ℕ) → code ≡ Some c → c < 40) → code_or_no (code_or_none code) ≡ code
 code_again None below = refl
 code_again (Some c) below = let lt = below c refl in rw (lt-ltb c 40 lt) refl
@@ -26,7 +26,7 @@ code_again (Some c) below = let lt = below c refl in rw (lt-ltb c 40 lt) refl
 pub same_code : (character : ℕ) → code_or_no (code_or_none (code_of character)) ≡ code_of character
 same_code character = code_again (code_of character) (λ c e. (character_again character c e).0)
 
--- the end of a text is followed by blanks
+-- the word of three blanks, which follow the end of a text, is 0
 pub blank_word : word_of_codes (code_of 32) (code_of 32) (code_of 32) ≡ Some 0
 unfolding code_of alphabet
 blank_word = refl

@@ -1,4 +1,4 @@
--- An expression is read up to its end, as it is written.
+-- An expression without missing terms or brackets is read up to its end.
 use Rattle.std.proofs.Common.{◌≡◌, ◌≢◌, ℕ, suc, ◌+◌, ◌-◌, Bool, true, false, List, [], ◌∷◌, ◌++◌, length, Some, None, refl, ap, ◌∙◌, arith, eqb}
 use Rattle.std.proofs.lemmas.Bool.{ne_eqb}
 use Rattle.std.proofs.lemmas.List.{append_assoc, length-append}
@@ -10,14 +10,14 @@ use Rattle.m11_scan.specs.declared.sort.Sort.TheVariants.{Less, Greater}
 use Rattle.m11_scan.specs.Expressions.{count_from, expression_length, goes_on, role_of, taken}
 use Rattle.m11_scan.specs.Grammar.{IsWritten, Single, Prefixed, Signed, Grouped, Alone, Added, Joined, MayFollow}
 
--- a term is needed, or has just been read
+-- the states in which a term is due, and in which a term has just been read
 due : ℕ → Within
 due depth = record { depth = depth; is_due = true }
 
 after : ℕ → Within
 after depth = record { depth = depth; is_due = false }
 
--- a token with a role by which the expression goes on
+-- if an expression continues with a token, it has this token and those with which it continues in the state after it
 one_taken : (sort : Sort) (sorts : List Sort) (role : Role) (within next : Within) → role_of sort ≡ role
     → goes_on role within ≡ Some next → taken (sort ∷ sorts) within ≡ suc (taken sorts next)
 one_taken sort sorts role within next is goes =
@@ -65,7 +65,7 @@ written_taken (Joined front sort sorts w is v) depth rest =
     joined_taken sort front sorts rest depth (written_taken w depth (sort ∷ (sorts ++ rest)))
     (one_taken sort (sorts ++ rest) Operator (after depth) (due depth) is refl) (written_taken v depth rest)
 
--- nothing after the expression belongs to it
+-- after a term outside brackets, an expression ends before any token that is neither a sign nor an operator
 role_stops : (role : Role) → role ≢ Sign → role ≢ Operator → goes_on role (after 0) ≡ None
 unfolding after
 role_stops Term a b = refl

@@ -1,6 +1,6 @@
 -- Classes of the characters of a source. (MACRO-11 Language Reference Manual, "Character set", ".ASCII directive" and "Arguments
--- in macro definitions and macro calls". `NameCharacters` of m11_base has the characters of names. Three things are this project's
--- own: which characters are never skipped, which have no printed form, and which a line contains unchanged.)
+-- in macro definitions and macro calls". `NameCharacters` of m11_base defines the characters of names. Three things are this project's own:
+-- which characters are never skipped, which have no printed form, and which a line contains unchanged.)
 use Rattle.std.specs.Prelude.{ℕ, Bool, not, ◌||◌, ◌&&◌, ◌==◌, nat_le, nat_lt, codes}
 use Rattle.std.specs.List.{list_any}
 use Rattle.m11_base.specs.NameCharacters.{is_name_character}
@@ -44,7 +44,7 @@ is_of Bare = is_bare
 is_of Unprinted = is_unprinted
 is_of Plain = is_plain
 
--- the bit of a class in the table
+-- the bit of a class in an entry of the table of classes
 abbrev pub bit_of : Class → ℕ
 bit_of Blank = 0o001
 bit_of Digit = 0o002

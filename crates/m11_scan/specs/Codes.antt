@@ -7,6 +7,6 @@ abbrev pub code_or_none : Option ℕ → ℕ
 code_or_none (Some code) = code
 code_or_none None = 40
 
--- a number as a code, if it is below 40
+-- a number as a code; none if it is 40 or more
 abbrev pub code_or_no : ℕ → Option ℕ
 code_or_no number = if nat_lt number 40 then Some number else None

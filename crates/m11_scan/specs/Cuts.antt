@@ -26,8 +26,8 @@ at_most count form more = if nat_le (length more) count then Some form else None
 abbrev pub all_pass : (ℕ → Bool) → Form → Bytes → Option Form
 all_pass passes form more = if list_all passes more then Some form else None
 
--- the form of a number, from the characters after its first digit: more digits, with an optional dot or `$` at the end;
--- otherwise none
+-- the form of a piece made up of a digit and these characters after it; none unless they are all digits, except for an optional dot or `$`
+-- at the end
 abbrev pub number_form : Bytes → Option Form
 number_form [] = Some (Cut Number)
 number_form (byte ∷ more) =
@@ -35,8 +35,8 @@ number_form (byte ∷ more) =
     else (if byte == 0o56 then alone (Cut DecimalNumber) more
     else (if byte == 0o44 then alone (Cut LocalSymbol) more else None))
 
--- the form of a piece that begins with `^`, from the characters after the `^`: without any, the `^` is skipped; B, O, D or C, or R
--- and any characters of names, make a token; anything else has no form; letters may be of either case
+-- the form of a piece made up of a `^` and these characters after it; none if together they aren't a single piece. A `^` alone is skipped.
+-- A token has one of B, O, D and C after the `^`, or R and any number of characters of names. Letters may be of either case
 abbrev pub caret_form : Bytes → Option Form
 caret_form [] = Some Skipped
 caret_form (flag ∷ more) =
@@ -46,13 +46,13 @@ caret_form (flag ∷ more) =
     else (if folded flag == 0o103 then alone (Cut Complement) more
     else (if folded flag == 0o122 then all_pass is_name_character (Cut Packed) more else None))))
 
--- the form of a token that is this character once or twice, from the characters after the first one; otherwise none
+-- the form of a piece made up of this character and those after it; none unless together they are this character once or twice
 abbrev pub doubled_form : ℕ → Sort → Sort → Bytes → Option Form
 doubled_form byte single double [] = Some (Cut single)
 doubled_form byte single double (next ∷ more) = if next == byte then alone (Cut double) more else None
 
--- the form of a piece that begins with this character, from the characters after it, if together they are a single piece; the
--- character isn't a digit, a letter, `$`, `.`, a blank, a tab or `;`
+-- the form of a piece made up of this character and those after it; none if together they aren't a single piece. This character isn't a
+-- digit, a letter, `$`, `.`, a blank, a tab or `;`
 abbrev pub marked_form : ℕ → Bytes → Option Form
 marked_form byte more =
     if byte == 0o47 then at_most 1 (Cut Character) more
@@ -80,19 +80,21 @@ pub record IsNext (piece : Piece) (text : Bytes) : Type 0 where
   pub form : form_of (take piece.length text) ≡ Some piece.form
   pub longest : (n : ℕ) → piece.length < n → n ≤ length text → form_of (take n text) ≡ None
 
--- a cut of a text: each piece is the next one, and nothing is left after the last
+-- pieces are a cut of a text: each is the next piece of the text that is left after those before it, and nothing is left after the
+-- last
 abbrev pub IsCut : List Piece → Bytes → Type 0
 IsCut [] text = text ≡ []
 IsCut (piece ∷ pieces) text = IsNext piece text × IsCut pieces (drop piece.length text)
 
--- tokens are in order and don't overlap, and none is empty; the first begins at this column or later, and all are within a line
--- of this size
+-- tokens are in order and don't overlap, and none is empty; the first begins at this column or later, and all are within a line of this
+-- many characters; without tokens, the column is at most that number
 abbrev pub AreOrdered : ℕ → ℕ → List Lexeme → Type 0
 AreOrdered size column [] = column ≤ size
 AreOrdered size column (token ∷ tokens) =
     (column ≤ token.start) × (token.start < token.end) × AreOrdered size token.end tokens
 
--- the characters of a line from a column on, put together from those of the tokens and those before, between and after them
+-- the part of a line that begins at a column, put together from the characters of these tokens and those before, between and
+-- after them
 abbrev pub joined_from : Bytes → ℕ → List Lexeme → Bytes
 joined_from line column [] = drop column line
 joined_from line column (token ∷ tokens) =

@@ -7,7 +7,7 @@ use Rattle.m11_scan.specs.declared.sort.Form.TheVariants.{Cut}
 use Rattle.m11_scan.specs.declared.pieces.Piece.{Piece}
 use Rattle.m11_scan.specs.Pieces.{first_piece}
 
--- the pieces of a text whose first `left` characters belong to an earlier piece
+-- the pieces of a text after its first `left` characters, which belong to an earlier piece
 abbrev pub pieces_after : ℕ → Bytes → List Piece
 pieces_after left [] = []
 pieces_after zero (byte ∷ text) =
@@ -30,19 +30,19 @@ abbrev pub text_between : Bytes → ℕ → ℕ → Bytes
 text_between line start end =
     if nat_le start end && nat_le end (length line) then take (end - start) (drop start line) else []
 
--- a list of the token at these columns of a line; empty if the piece there doesn't have the form of a token
+-- a list with the token between two columns of a line; an empty list if the piece there isn't a token
 abbrev pub lexemes_at : Bytes → ℕ → ℕ → Form → List Lexeme
 lexemes_at line start end (Cut sort) =
     record { sort = sort; start = start; end = end; text = text_between line start end } ∷ []
 lexemes_at line start end _ = []
 
--- the tokens among consecutive pieces from a column of a line on
+-- the tokens among consecutive pieces of a line, the first of which begins at this column
 abbrev pub lexemes_from : Bytes → ℕ → List Piece → List Lexeme
 lexemes_from line column [] = []
 lexemes_from line column (piece ∷ pieces) =
     lexemes_at line column (column + piece.length) piece.form ++ lexemes_from line (column + piece.length) pieces
 
--- the tokens of a line from a column on
+-- the tokens of the part of a line that begins at a column; none if the column is past the end
 abbrev pub tokens_from : Bytes → ℕ → List Lexeme
 tokens_from line column = lexemes_from line column (pieces_of (drop column line))
 

@@ -9,7 +9,7 @@ use Rattle.m11_scan.specs.Expressions.{begin, taken}
 abbrev pub sort_in : Lexeme → Sort
 sort_in token = token.sort
 
--- the column after the last of these tokens, or this column if there is none
+-- the column after the last of these tokens, or this column if there are none
 abbrev pub column_after : ℕ → List Lexeme → ℕ
 column_after column [] = column
 column_after column (token ∷ tokens) = column_after token.end tokens

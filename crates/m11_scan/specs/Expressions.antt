@@ -39,8 +39,8 @@ role_of _ = Foreign
 abbrev pub within_if : Bool → ℕ → Bool → Option Within
 within_if holds depth is_due = if holds then Some (record { depth = depth; is_due = is_due }) else None
 
--- the state after a token, if the expression continues with it: a term, a prefix or `<` where a term must come next; a sign or an
--- operator anywhere, since a term may be missing; `>` if a bracket is open
+-- the state after a token, if the expression continues with it: a term, a prefix or `<` where a term is due; a sign or an operator
+-- anywhere, since a term may be missing; `>` if a bracket is open; otherwise none
 abbrev pub goes_on : Role → Within → Option Within
 goes_on Term within = within_if within.is_due within.depth false
 goes_on Prefix within = within_if within.is_due within.depth true
@@ -59,7 +59,7 @@ abbrev pub taken : List Sort → Within → ℕ
 taken [] within = 0
 taken (sort ∷ sorts) within = count_from (goes_on (role_of sort) within) (λ next. taken sorts next)
 
--- the state at the beginning of an expression: no bracket is open, and a term must come next
+-- the state at the beginning of an expression: no bracket is open, and a term is due
 abbrev pub begin : Within
 begin = record { depth = 0; is_due = true }
 

@@ -7,7 +7,7 @@ use Rattle.m11_scan.specs.declared.sort.Sort.{Sort}
 use Rattle.m11_scan.specs.declared.sort.Sort.TheVariants.{Less, Greater}
 use Rattle.m11_scan.specs.Expressions.{role_of}
 
--- the sorts of the tokens of a term (true) or of an expression (false), in which no term and no bracket is missing
+-- these are the sorts of the tokens of a term (true) or of an expression (false) in which no term and no bracket is missing
 pub data IsWritten : Bool → List Sort → Type 0 where
   -- a term is a name, a number, or characters after `'`, `"` or `^R`
   Single : (sort : Sort) → role_of sort ≡ Term → IsWritten true (sort ∷ [])
@@ -24,12 +24,12 @@ pub data IsWritten : Bool → List Sort → Type 0 where
   Joined : (front : List Sort) (sort : Sort) (sorts : List Sort) → IsWritten false front → role_of sort ≡ Operator
       → IsWritten true sorts → IsWritten false (front ++ sort ∷ sorts)
 
--- what may follow an expression: nothing, or tokens of which the first is neither a sign nor an operator
+-- tokens of these sorts may follow an expression: there are none, or the first is neither a sign nor an operator
 abbrev pub MayFollow : List Sort → Type 0
 MayFollow [] = Unit {0}
 MayFollow (sort ∷ sorts) = (role_of sort ≢ Sign) × (role_of sort ≢ Operator)
 
--- texts in which each `<` has its `>` and each `>` its `<`
+-- the brackets of a text match: each `<` has its `>`, and each `>` its `<`
 pub data IsNested : Bytes → Type 0 where
   Empty : IsNested []
   Plain : (byte : ℕ) (text : Bytes) → byte ≢ 0o74 → byte ≢ 0o76 → IsNested text → IsNested (byte ∷ text)

@@ -1,4 +1,4 @@
--- The texts of plain lines, and the inputs that they make.
+-- The texts of plain lines, and inputs made of such lines.
 use Rattle.std.specs.Prelude.{◌≡◌, ⊤, true, List, [], ◌∷◌, ◌++◌}
 use Rattle.m11_base.specs.Devices.{Bytes}
 use Rattle.m11_scan.specs.Lines.{RawLine}

@@ -13,7 +13,8 @@ pub record RawLine : Type 0 where
   pub bytes : Bytes
   pub has_line_feed : Bool
 
--- an input cut at its line feeds and at the ends of its sources; the bytes after the last of these are unclosed
+-- an input cut after each line feed and at the end of each source: the pieces before the cuts, and the unclosed bytes after the last
+-- cut
 pub record Cut : Type 0 where
   pub lines : List RawLine
   pub unclosed : Bytes
@@ -63,7 +64,7 @@ line_text line =
 abbrev pub is_line : RawLine → Bool
 is_line line = line.has_line_feed || not (is_empty (cleaned line.bytes))
 
--- the number of bytes that a line has in its source, including the line feed
+-- the number of bytes that a line has in its source, including its line feed if it has one
 abbrev pub size_of : RawLine → ℕ
 size_of line = length line.bytes + (if line.has_line_feed then 1 else 0)
 

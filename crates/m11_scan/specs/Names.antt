@@ -1,5 +1,5 @@
--- Names, and the characters of `^R`. (MACRO-11 Language Reference Manual, "Symbols": the first six characters of a name count;
--- "Radix-50 operator": `^R` packs three.) `NameCharacters` of m11_base has the six characters, and `Rad50` their words.
+-- Names, and the characters after `^R`. (MACRO-11 Language Reference Manual, "Symbols": the first six characters of a name count; "Radix-50
+-- operator": `^R` packs three.) `NameCharacters` of m11_base defines the six characters of a name, and `Rad50` their words.
 use Rattle.std.specs.Prelude.{ℕ, Bool, [], ◌∷◌, map, unwrap_or}
 use Rattle.std.specs.List.{list_all}
 use Rattle.m11_base.specs.Devices.{Bytes}

@@ -13,7 +13,7 @@ base_of Binary = 2
 base_of Octal = 8
 base_of Decimal = 10
 
--- the number that digits spell: the sum of the digits, each times the base to the power of the number of digits after it
+-- the number that digits spell in a base: the sum of the digits, each times the base to the power of the number of digits after it
 abbrev pub spelled : ℕ → Bytes → ℕ
 spelled base [] = 0
 spelled base (digit ∷ digits) = (digit - 0o60) * base ^ length digits + spelled base digits
@@ -22,7 +22,7 @@ spelled base (digit ∷ digits) = (digit - 0o60) * base ^ length digits + spelle
 abbrev pub has_digit_outside : ℕ → Bytes → Bool
 has_digit_outside base digits = list_any (λ digit. nat_le (base + 0o60) digit) digits
 
--- the number that digits spell in a radix; if one of them is outside the radix, they are decimal
+-- the number that digits spell in a radix; if one of them is outside the radix, they are read as decimal
 abbrev pub number_of : Radix → Bytes → ℕ
 number_of radix digits =
     spelled (if has_digit_outside (base_of radix) digits then 10 else base_of radix) digits

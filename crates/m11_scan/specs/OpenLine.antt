@@ -12,7 +12,7 @@ pub record OpenLine : Type 0 where
 abbrev pub nothing_open : OpenLine
 nothing_open = record { kept = no_line; has_return = false }
 
--- the line whose characters include the trailing CR, if there is one
+-- the line with the trailing CR, if there is one, as its last character
 abbrev pub with_return : OpenLine → SourceLine
 with_return line = if line.has_return then with_bytes line.kept (13 ∷ []) else line.kept
 
@@ -21,8 +21,8 @@ abbrev pub with_plain : OpenLine → Bytes → OpenLine
 with_plain line [] = line
 with_plain line (byte ∷ bytes) = record { kept = with_bytes (with_return line) (byte ∷ bytes); has_return = false }
 
--- the line after one more byte, which isn't a line feed: a NUL changes nothing, a CR is held back, and a form feed becomes a
--- blank
+-- the line after one more byte, which isn't a line feed. A NUL changes nothing. Before any other byte the CR that was held back, if
+-- there is one, becomes a character of the line; a CR is then held back in its turn, and a form feed becomes a blank
 abbrev pub with_byte : OpenLine → ℕ → OpenLine
 with_byte line byte =
     if byte == 0 then line

@@ -47,8 +47,8 @@ number_ending digits (byte ∷ rest) =
 abbrev pub number_piece : Bytes → Piece
 number_piece text = number_ending (prefix_len is_digit text) (drop (prefix_len is_digit text) text)
 
--- the piece of a `^` and this text after it: a token if one of B, O, D, C and R follows, in either case; otherwise the `^` is
--- skipped
+-- the piece that begins with a `^` followed by this text: a token if the text begins with B, O, D, C or R, in either case; otherwise the
+-- `^` alone, which is skipped
 abbrev pub caret_piece : Bytes → Piece
 caret_piece [] = record { form = Skipped; length = 1 }
 caret_piece (flag ∷ rest) =

@@ -8,7 +8,7 @@ use Rattle.m11_scan.specs.declared.fault.LineFault.TheVariants.{Read, TooMuchSou
 use Rattle.m11_scan.specs.Line.{SourceLine, line_of, no_line}
 use Rattle.m11_scan.specs.Lines.{RawLine, cut, cleaned, is_line, line_text, size_of, bytes_in, lines_in, most_bytes, most_lines}
 
--- the reader between two calls: the number of sources read to their ends, the bytes and lines left within the limits, the last
+-- the reader between two calls: the number of sources read to their ends, the numbers of bytes and lines left within the limits, the last
 -- line, and the fault, if there was one
 pub record LineReading : Type 0 where
   pub source : ℕ
@@ -22,8 +22,8 @@ abbrev pub unread : LineReading
 unread =
     record { source = 0; bytes_left = most_bytes; lines_left = most_lines; line = no_line; fault = None }
 
--- the state of the sources between two calls: the number read to their ends, the texts of the others, the number of failures of
--- each, and the bytes and lines left within the limits
+-- the state of the sources between two calls: the number of sources read to their ends, the unread texts of the others, the number
+-- of failures of each source, and the numbers of bytes and lines left within the limits
 pub record Position : Type 0 where
   pub source : ℕ
   pub texts : List (Option Text)
@@ -44,8 +44,8 @@ abbrev pub position : {F : Type 0} → (F → Option Text) → (F → ℕ) → L
 position text faults feeds reading =
     position_at text faults feeds reading.source reading.bytes_left reading.lines_left
 
--- this input, the bytes of each source and its end, was read from the sources in order; a source that is read to its end drops
--- out, and the next may be read in part
+-- this input, which consists of bytes and of the ends of sources, was read from the sources in order. A source that was read to its
+-- end drops out of the list, and part of the next one may have been read
 abbrev pub Gave : List (Option Text) → List (Option Text) → List (Option ℕ) → Type 0
 Gave [] new [] = new ≡ []
 Gave [] new (symbol ∷ input) = ⊥
@@ -54,8 +54,8 @@ Gave (text ∷ texts) new (Some byte ∷ input) =
     (text' : Option Text) × GivesByte text text' byte × Gave (text' ∷ texts) new input
 Gave (text ∷ texts) new (None ∷ input) = (text' : Option Text) × GivesEnd text text' × Gave texts new input
 
--- pieces of sources that aren't lines (at most NULs before the end of a source), and then bytes without a line feed or an end,
--- were read within the limits; if no more lines may begin, these bytes are only NULs
+-- pieces of sources that aren't lines (each is the end of a source with nothing but NULs before it), and then bytes without a line
+-- feed or an end, were read within the limits; if no more lines may begin, all of these bytes are NULs
 pub record Came (old new : Position) (given : List (Option ℕ)) : Type 0 where
   pub passed : List RawLine
   pub unclosed : Bytes
@@ -102,8 +102,8 @@ pub record Fails (old new : Position) : Type 0 where
   pub source : new.source ≡ old.source
   pub faults : new.faults ≡ slice_set old.faults old.source count
 
--- a fault after bytes without a line: a failure, a byte past the limit on bytes, or the first byte other than NUL of a line past
--- the limit on lines
+-- the fault that came next: a failure of the current source, a byte past the limit on bytes, or the first byte other than NUL of a
+-- line past the limit on lines
 abbrev pub FaultComes : Position → Position → LineFault → Type 0
 FaultComes old new Read = Fails old new
 FaultComes old new TooMuchSource = (byte : ℕ) × Gave old.texts new.texts (Some byte ∷ [])

@@ -13,15 +13,15 @@ abbrev pub is_skipped : Form → Bool
 is_skipped Skipped = true
 is_skipped _ = false
 
--- whether a piece of a text is a character that begins no token
+-- whether any piece of a text is a character that begins no token
 abbrev pub has_skipped : Bytes → Bool
 has_skipped text = list_any (λ (piece : Piece). is_skipped piece.form) (pieces_of text)
 
--- whether a character before the comment of a text may be skipped
+-- whether any character of a text before its comment, if it has one, is `'`, `"`, `^` or a character that begins no token
 abbrev pub has_unkept : Bytes → Bool
 has_unkept [] = false
 has_unkept (byte ∷ text) = if is_kept byte then has_unkept text else not (byte == 0o73)
 
--- whether a piece of the text between two columns of a line is a character that begins no token
+-- whether any piece of the text between two columns of a line is a character that begins no token
 abbrev pub skipped_between : Bytes → ℕ → ℕ → Bool
 skipped_between line start end = has_skipped (text_between line start end)

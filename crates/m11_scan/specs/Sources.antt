@@ -10,7 +10,7 @@ use Rattle.m11_scan.specs.declared.sources.LineEnd.TheVariants.{LineFeed, Source
 use Rattle.m11_scan.specs.Lines.{HasNoLineFeed, cleaned}
 use Rattle.m11_scan.specs.OpenLine.{OpenLine, with_byte, with_all}
 
--- the unread text of the current source, the number of its failures, the bytes left within the limit, and the open line
+-- the unread text of the current source, the number of its failures, the number of bytes left within the limit, and the open line
 pub record Source : Type 0 where
   pub text : Option Text
   pub faults : ℕ
@@ -21,7 +21,7 @@ abbrev pub source : Option Text → ℕ → ℕ → OpenLine → Source
 source text faults bytes_left line =
     record { text = text; faults = faults; bytes_left = bytes_left; line = line }
 
--- bytes without a line feed were read within the limits, and added to the line; they are only NULs if no line may begin
+-- bytes without a line feed were read within the limits, and added to the line; if no line may begin, all of these bytes are NULs
 pub record Took (may_begin : Bool) (old new : Source) (given : Bytes) : Type 0 where
   pub gave : GivesBytes old.text new.text given
   pub faults : new.faults ≡ old.faults
@@ -30,7 +30,7 @@ pub record Took (may_begin : Bool) (old new : Source) (given : Bytes) : Type 0 w
   pub begins : may_begin ≡ false → cleaned given ≡ []
   pub line : new.line ≡ with_all old.line given
 
--- the event that ended the reading: a line feed, the end of the source, a failure, or a byte past a limit
+-- the reading ended with this result: at a line feed, at the end of the source, at a failure of the feed, or at a byte past a limit
 abbrev pub CameLast : Bool → Source → Source → Result LineEnd LineFault → Type 0
 CameLast may_begin old new (Ok LineFeed) = GivesByte old.text new.text 0o12 × (new.faults ≡ old.faults)
     × (old.bytes_left ≡ 1 + new.bytes_left) × (new.line ≡ old.line) × (may_begin ≡ true)
@@ -43,19 +43,20 @@ CameLast may_begin old new (Err TooMuchSource) = (byte : ℕ) × GivesByte old.t
 CameLast may_begin old new (Err TooManyLines) = (byte : ℕ) × GivesByte old.text new.text byte
     × (new.faults ≡ old.faults) × (old.bytes_left ≡ 1 + new.bytes_left) × ((byte == 0) ≡ false) × (may_begin ≡ false)
 
--- bytes without a line feed were read from a source, and then came the event that ended the reading
+-- bytes without a line feed were read from a source, and then the reading ended with this result
 pub record StopsAt (may_begin : Bool) (old new : Source) (result : Result LineEnd LineFault) : Type 0 where
   pub middle : Source
   pub given : Bytes
   pub took : Took may_begin old middle given
   pub last : CameLast may_begin middle new result
 
--- ready bytes were read, with or without a line feed at their end
+-- ready bytes were read, with a line feed at their end (true) or with no line feed (false)
 abbrev pub TookReady : Bool → Source → Source → Bool → Type 0
 TookReady may_begin old new true = StopsAt may_begin old new (Ok LineFeed)
 TookReady may_begin old new false = (given : Bytes) × Took may_begin old new given
 
--- the bytes of a slice up to its first line feed, or all of them if it has none, were read and added to the line
+-- the bytes of a slice were read up to and including its first line feed, or all of them if it has none; all but the line feed
+-- were added to the line
 abbrev pub TookOf : Bytes → OpenLine → OpenLine → ℕ → Bool → Type 0
 TookOf bytes old new count true = (given : Bytes) × (take count bytes ≡ given ++ 0o12 ∷ []) × (count ≡ length given + 1)
     × HasNoLineFeed given × (new ≡ with_all old given)

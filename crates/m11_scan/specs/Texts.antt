@@ -17,8 +17,8 @@ delimited delimiter text = record {
 abbrev pub longer : Enclosed → Enclosed
 longer enclosed = record { length = suc enclosed.length; is_closed = enclosed.is_closed }
 
--- the number of characters before the `>` that closes the outer bracket, or of all characters without such a `>`, and whether
--- there is one; `depth` more brackets are open inside
+-- the number of characters before the `>` that closes the outer bracket, or of all characters if there is no such `>`, and
+-- whether there is one; `depth` more brackets are open inside
 abbrev pub inside : ℕ → Bytes → Enclosed
 inside depth [] = record { length = 0; is_closed = false }
 inside zero (byte ∷ text) =

@@ -17,7 +17,7 @@ pub enum Class {
     Kept = 0o010,
     /// A character of an actual without brackets: any but a blank, a tab, `,` and `;`.
     Bare = 0o020,
-    /// A blank, or a character without a printed form: up to octal 40, and from octal 177 on.
+    /// A blank, or a character without a printed form: octal 40 and below, or octal 177 and above.
     Unprinted = 0o040,
     /// A character that a line contains unchanged: any but NUL, line feed, form feed and CR.
     Plain = 0o100,

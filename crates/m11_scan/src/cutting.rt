@@ -43,7 +43,7 @@ pub fn text_between(line: &Line, start: u8, end: u8) -> &[u8]
     }
 }
 
-/// The characters of a line from a column on; none past its end.
+/// The characters of a line at and after a column; none if the column is past the line's end.
 pub fn text_from(line: &Line, column: u8) -> &[u8]
     ensures text { result.now ≡ drop column line.now.text }
     ensures fits { length result.now ≤ line_limit - column }
@@ -52,7 +52,8 @@ pub fn text_from(line: &Line, column: u8) -> &[u8]
     &text[usize::from(column).min(text.len())..]
 }
 
-/// The first token of a line at or after a column, if there is one. A line has none at or after a column past its end.
+/// The first token of a line at or after a column, if there is one; the characters before the column don't count. There is none if the
+/// column is past the line's end.
 pub fn next_token(line: &Line, column: u8) -> Option<Token>
     ensures token { MatchOption result (tokens_from line.now.text column ≡ [])
         (λ token. tokens_from line.now.text column ≡ lexeme line.now.text token ∷ tokens_from line.now.text token.end) }
@@ -77,7 +78,7 @@ pub fn next_token(line: &Line, column: u8) -> Option<Token>
     None
 }
 
-/// The token that begins at a column of a line, if there is one.
+/// The token that begins at a column of a line, if there is one; the characters before the column don't count.
 pub fn token_at(line: &Line, column: u8) -> Option<Token>
     ensures token { IfSome result (λ token. tokens_from line.now.text column
         ≡ lexeme line.now.text token ∷ tokens_from line.now.text token.end) }

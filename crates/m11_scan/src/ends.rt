@@ -34,7 +34,7 @@ pub fn expression_end(line: &Line, column: u8) -> u8
 pub struct Expression {
     /// The tokens, in order.
     pub tokens: ArrayVec<Token, LINE_LIMIT>,
-    /// The column after the last token, or without tokens the column at which the expression was to begin.
+    /// The column after the last token. If there are no tokens, the column at which an expression was looked for.
     pub end: u8,
 }
 

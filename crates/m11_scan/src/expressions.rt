@@ -30,7 +30,7 @@ pub enum Role {
 pub struct Within {
     /// The number of `<` that aren't closed yet.
     pub depth: usize,
-    /// Whether a term must come next.
+    /// Whether a term is due next; it may be missing.
     pub is_due: bool,
 }
 

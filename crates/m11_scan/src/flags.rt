@@ -95,7 +95,7 @@ impl ErrorFlags {
         ErrorFlags(self.0 | other.0)
     }
 
-    /// These flags if a condition holds, otherwise none.
+    /// These flags if a condition holds, otherwise no flags.
     pub fn when(self, holds: bool) -> ErrorFlags
         ensures { bits_of result ≡ (if holds then bits_of self else 0) }
     {

@@ -28,8 +28,8 @@ pub fn tokens_lie_in_order()
 {}
 
 /// An expression without missing terms or brackets is read whole if nothing follows it, or if the next token is neither a sign nor
-/// an operator. Such an expression is a row of terms with a sign or an operator between each two. A term may be an expression in
-/// brackets, and may have signs and prefixes before it.
+/// an operator. Such an expression is a sequence of terms, with a sign or an operator between any two neighbours. A term may be an
+/// expression in brackets, and may have signs and prefixes before it.
 #[tactic(auto, using(crate::proofs::WrittenExpressions::written_length))]
 pub fn written_expressions_are_taken_whole()
     ensures { (sorts rest : List Sort) → IsWritten false sorts → MayFollow rest

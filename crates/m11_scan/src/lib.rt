@@ -1,7 +1,7 @@
-//! The lines of sources, and the parts of one line: the characters of a line, the reader of lines from feeds, the tokens of a
-//! line, its numbers and names, the ends of its expressions, its other arguments, and its error flags. Symbols have no values
-//! here, and nothing is allocated. Columns are counted from 0, and any of them may be asked for: past the end of a line there are
-//! no characters and no tokens. (MACRO-11 Language Reference Manual, "Source program format" and "Symbols and expressions".)
+//! The lines of sources, and the parts of one line. This crate reads lines from feeds. In a line it finds the tokens, numbers and
+//! names, the ends of expressions, and other arguments; it also has the error flags of a line. Symbols have no values here, and
+//! nothing is allocated. Columns are counted from 0. Any column may be passed: past the end of a line there are no characters and
+//! no tokens. (MACRO-11 Language Reference Manual, "Source program format" and "Symbols and expressions".)
 #![tactic(auto)]
 
 // Classes of characters, a line, and a line whose end hasn't been read.

@@ -6,8 +6,8 @@ ghost use Rattle.m11_scan.specs.Laws.{ArePlainTexts, IsPlainText, with_line_feed
 ghost use Rattle.m11_scan.specs.Line.{line_limit, line_of};
 ghost use Rattle.m11_scan.specs.Lines.{RawLine, cut, line_text};
 
-/// If the first part of an input ends at the end of a line, the lines of the whole are the lines of that part followed by those of
-/// the rest. So the lines that a reader returns one after another are the lines of the whole input.
+/// If the first part of an input ends at the end of a line or of a source, the lines of the whole are the lines of that part followed
+/// by those of the rest. So the lines that a reader returns one after another are the lines of the whole input.
 pub fn lines_of_parts_are_those_of_the_whole()
     ensures { (front rest : List (Option ℕ)) (lines more : List RawLine) (unclosed : Bytes)
         → cut front ≡ record { lines = lines; unclosed = [] } → cut rest ≡ record { lines = more; unclosed = unclosed }
@@ -15,7 +15,7 @@ pub fn lines_of_parts_are_those_of_the_whole()
 {}
 
 /// An input of lines without NULs, line feeds, form feeds or CRs, each followed by a line feed, is cut into exactly these lines.
-/// Such bytes after the last line feed are left unclosed. The text of each line is the line unchanged.
+/// If more bytes without these characters follow the last line feed, they are left unclosed. The text of each line is the line unchanged.
 pub fn plain_lines_are_cut_as_they_stand()
     ensures cuts { (lines : List Bytes) (last : Bytes) → ArePlainTexts lines → IsPlainText last
         → cut (map (λ byte. Some byte) (written lines ++ last))

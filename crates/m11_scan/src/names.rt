@@ -1,4 +1,4 @@
-//! Names, and the characters of `^R`. (MACRO-11 Language Reference Manual, "Symbols" and "Radix-50 operator".)
+//! Names, and the characters after `^R`. (MACRO-11 Language Reference Manual, "Symbols" and "Radix-50 operator".)
 
 ghost use Rattle.std.specs.Prelude.{◌≡◌, ◌<◌, ◌+◌, ◌^◌, true, IfSome, unwrap_or};
 ghost use Rattle.std.specs.Option.{is_some};
@@ -29,7 +29,7 @@ fn pack_first(text: &[u8]) -> Option<Name>
     name_of_words(word_at(text, 0), last_word(text))
 }
 
-// The word of the last three of a name's six characters, if each has a code.
+// The word of the last three of a name's six characters; None if one of them has no code.
 // speed: most names have at most three characters, and the blanks after them needn't be packed.
 #[tactic(auto, using(crate::proofs::TableOfCodes::blank_word))]
 fn last_word(text: &[u8]) -> Option<u16>
@@ -55,7 +55,8 @@ fn name_of_words(first: Option<u16>, second: Option<u16>) -> Option<Name>
     }
 }
 
-// The word of the three characters from an index of a text on, with blanks past the text's end, if each character has a code.
+// The word of the three characters that begin at an index of a text, with blanks past the text's end; None if one of them has no
+// code.
 fn word_at(text: &[u8], index: usize) -> Option<u16>
     requires { index + 2 < 2 ^ 64 }
     ensures word { result ≡ word_of_codes (code_of (character_at text.now index)) (code_of (character_at text.now (index + 1)))
@@ -69,7 +70,7 @@ fn word_at(text: &[u8], index: usize) -> Option<u16>
     )
 }
 
-// The word of these three codes, unless one of them is `NO_CODE`.
+// The word of these three codes; None if one of them is `NO_CODE` or greater.
 fn word_of_codes(first: u8, second: u8, third: u8) -> Option<u16>
     ensures word { result ≡ word_of_codes (code_or_no first) (code_or_no second) (code_or_no third) }
     ensures below { IfSome result (λ word. word < word_limit) }

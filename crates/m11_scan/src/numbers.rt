@@ -12,7 +12,7 @@ use crate::radix::Radix;
 pub struct Number {
     /// The number modulo 65536.
     pub value: u16,
-    /// N for a digit outside the radix, T for a number over 65535, Q for a missing character.
+    /// N for a digit outside the radix, T for a number over 65535, Q if no characters follow `^R`.
     pub flags: ErrorFlags,
 }
 

@@ -78,7 +78,8 @@ impl OpenLine {
         }
     }
 
-    /// Adds a byte other than a line feed. A NUL is dropped, a CR is held back, and a form feed becomes a blank.
+    /// Adds a byte other than a line feed, and before it the CR that was held back, if there is one. A NUL changes nothing, a CR is
+    /// held back in its turn, and a form feed becomes a blank.
     // speed: not inlined, so that a line of plain bytes pays for no stack frame.
     #[inline(never)]
     pub(crate) fn push(&mut self, byte: u8)
@@ -97,7 +98,8 @@ impl OpenLine {
         }
     }
 
-    // Adds the CR that was held back, if there is one, and then the first `count` of these bytes unchanged; nothing if `count` is 0.
+    // Adds the CR that was held back, if there is one, and then the first `count` of these bytes unchanged. Adds nothing if `count`
+    // is 0.
     fn push_plain(&mut self, bytes: &[u8], count: usize)
         requires { count ≤ length bytes.now }
         ensures { self.new ≡ with_plain self.old (take count bytes.now) }
@@ -109,7 +111,7 @@ impl OpenLine {
         self.kept.push_first(bytes, count);
     }
 
-    /// Reads bytes up to the first line feed, or all of them. The line feed is counted but not added.
+    /// Adds the bytes before the first line feed, or all of them if there is none. The line feed is counted as read but not added.
     pub(crate) fn take(&mut self, bytes: &[u8]) -> ByteRun
         ensures { TookOf bytes.now self.old self.new result.count result.is_closed }
     {

@@ -103,8 +103,8 @@ fn mark_piece(first: u8, rest: &[u8]) -> Piece
     }
 }
 
-// The piece that begins with a `^` before this text: a token if one of B, O, D, C and R follows, in either case; otherwise the
-// `^` is skipped.
+// The piece that begins with a `^` followed by this text: a token if the text begins with B, O, D, C or R, in either case; otherwise the
+// `^` alone, which is skipped.
 fn caret_piece(rest: &[u8]) -> Piece
     ensures piece { result ≡ spec.caret_piece rest.now }
     ensures begins { 0 < result.length }

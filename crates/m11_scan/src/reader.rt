@@ -56,8 +56,8 @@ impl LineReader {
     }
 
     /// Reads the next line of the sources. Returns whether there is one; there is none after the last source. Each call must pass
-    /// the same feeds. Errors, the first in the order of the bytes: `Read` if a feed fails, `TooMuchSource` at byte 4,194,305,
-    /// and `TooManyLines` at line 65,536. After an error each call returns it again and reads nothing.
+    /// the same feeds. Errors: `Read` if a feed fails, `TooMuchSource` at byte 4,194,305, and `TooManyLines` at line 65,536, whichever
+    /// comes first in the order of the bytes. After an error each call returns it again and reads nothing.
     pub fn next<F: Feed>(&mut self, feeds: &mut [F]) -> Result<bool, LineFault>
         ensures reads { self.old.fault ≡ None → ReadsNext (position F.text F.faults feeds.old self.old)
             (position F.text F.faults feeds.new self.new) (found self.new.line result) }

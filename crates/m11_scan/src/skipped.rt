@@ -9,8 +9,9 @@ use crate::line::Line;
 use crate::pieces::first_piece;
 use crate::sort::Form;
 
-/// Whether a character from `start` up to but not including `end` is skipped, since it is neither part of a token, nor a blank or
-/// a tab, nor in the comment. A line with such a character is flagged I.
+/// Whether any character from `start` up to but not including `end` is skipped: it is neither part of a token nor in the comment,
+/// and it is neither a blank nor a tab. These characters are cut into pieces by themselves. False if `end` is before `start` or past the
+/// line's end. A line with a skipped character is flagged I.
 #[inline(always)]
 pub fn skipped_between(line: &Line, start: u8, end: u8) -> bool
     ensures { result ≡ skipped_between line.now.text start end }
@@ -19,7 +20,7 @@ pub fn skipped_between(line: &Line, start: u8, end: u8) -> bool
     start < end && has_skipped(text_between(line, start, end))
 }
 
-// Whether a piece of a text is a character that begins no token.
+// Whether any piece of a text is a character that begins no token.
 // speed: not inlined, so that callers inline only the comparison above.
 #[inline(never)]
 fn has_skipped(text: &[u8]) -> bool
@@ -29,8 +30,8 @@ fn has_skipped(text: &[u8]) -> bool
     has_unkept(text) && is_some_skipped(text)
 }
 
-// Whether a character before the comment of a text may be skipped. A `;` in a token is preceded by `'` or `"`, which counts as
-// such a character.
+// Whether any character of a text before its comment, if it has one, is `'`, `"`, `^` or a character that begins no token. A `;` in a token
+// is preceded by one of these characters, so the first `;` that the loop reaches begins the comment.
 fn has_unkept(text: &[u8]) -> bool
     ensures { result ≡ has_unkept text.now }
 {
@@ -44,7 +45,7 @@ fn has_unkept(text: &[u8]) -> bool
     false
 }
 
-// Whether a piece of a text is a skipped character. The text is cut piece by piece.
+// Whether any piece of a text is a character that begins no token. The text is cut piece by piece.
 // speed: not inlined, since few texts have to be cut.
 #[inline(never)]
 fn is_some_skipped(text: &[u8]) -> bool

@@ -1,5 +1,5 @@
-//! The sorts of tokens, and the other pieces of a line. (MACRO-11 Language Reference Manual, "Symbols and expressions" and "Character
-//! set".)
+//! The sorts of tokens, and the forms of the pieces of a line. (MACRO-11 Language Reference Manual, "Symbols and expressions" and
+//! "Character set".)
 
 /// The sort of a token.
 #[derive(Clone, Copy, PartialEq, Eq, Debug, Default)]

@@ -13,9 +13,9 @@ pub(crate) enum LineEnd {
     SourceEnd,
 }
 
-/// Reads a source up to a line feed or to its end, adds its bytes to the line, and counts them down from `bytes_left`. Errors:
-/// `Read` if the feed fails, `TooMuchSource` at a byte after `bytes_left` bytes, and `TooManyLines` at a byte other than NUL unless
-/// `may_begin`.
+/// Reads a source up to the first line feed, or to the end of the source. Adds the bytes before the line feed to the line, and subtracts 1
+/// from `bytes_left` for each byte, including the line feed. Errors: `Read` if the feed fails, `TooMuchSource` at a byte after `bytes_left`
+/// bytes, and `TooManyLines` at the first byte other than NUL if `may_begin` is false.
 pub(crate) fn read_source<F: Feed>(
     feed: &mut F,
     bytes_left: &mut u32,
@@ -41,8 +41,8 @@ pub(crate) fn read_source<F: Feed>(
     }
 }
 
-// Reads the ready bytes within the limit into the line, up to a line feed; reads none if no line may begin. Returns whether it read
-// a line feed.
+// Reads ready bytes, at most `bytes_left`, up to the first line feed, and adds those before the line feed to the line. Subtracts their
+// number, including the line feed, from `bytes_left`. Reads none if no line may begin. Returns whether it read a line feed.
 fn take_ready<F: Feed>(
     feed: &mut F,
     bytes_left: &mut u32,
@@ -64,8 +64,8 @@ fn take_ready<F: Feed>(
     taken.is_closed
 }
 
-// Counts one byte down from `bytes_left`, adds it to the line unless it is a NUL or a line feed, and returns whether it is a line
-// feed. Errors: the byte is past the limit on bytes, or begins a line past the limit on lines.
+// Subtracts 1 from `bytes_left`, adds the byte to the line unless it is a NUL or a line feed, and returns whether it is a line
+// feed. Errors: `TooMuchSource` if `bytes_left` is 0, otherwise `TooManyLines` if no line may begin and the byte isn't a NUL.
 fn take_byte(
     byte: u8,
     bytes_left: &mut u32,

@@ -6,10 +6,10 @@ ghost use Rattle.m11_scan.specs.Texts.{bracketed, delimited, separator_length};
 
 use crate::classes::{Class, run_length};
 
-/// A text between two delimiters, the second of which may be missing.
+/// The extent of a text between two delimiters, the second of which may be missing.
 #[derive(Clone, Copy, PartialEq, Eq, Debug)]
 pub struct Enclosed {
-    /// The number of characters before the second delimiter.
+    /// The number of characters before the second delimiter, or of all characters if it is missing.
     pub length: usize,
     /// Whether the second delimiter was found. Without it the text extends to the end of the line.
     pub is_closed: bool,
@@ -39,8 +39,8 @@ pub fn delimited(text: &[u8], delimiter: u8) -> Enclosed
     }
 }
 
-/// The number of characters before the `>` that closes the `<` in front of a text, or of all characters without such a `>`, and
-/// whether there is one. Brackets inside the text nest.
+/// The number of characters before the `>` that closes the `<` in front of a text, or of all characters if there is no such `>`,
+/// and whether there is one. Brackets inside the text nest.
 pub fn bracketed(text: &[u8]) -> Enclosed
     ensures text { result ≡ bracketed text.now }
     ensures within { result.length ≤ length text.now }

@@ -27,7 +27,8 @@ zero_more n = omega arith
 suc_out : (a b : ℕ) → suc (suc (a + b)) ≡ suc (suc a + b)
 suc_out a b = omega arith
 
--- where some brackets are open in a term: it goes on after the `>` that closes the outermost one, or has all tokens
+-- the rest of a term in which brackets are open: either a `>` closes the outermost one, and the term continues after it, or none
+-- does, and the term has all tokens
 pub data AfterBracket (in_bracket : Bool) (depth : ℕ) (due : Bool) (rest : List Sort) : Type 0 where
   Closed : bracket_length depth rest < length rest
       → term_length in_bracket (at (suc depth) due) rest
@@ -36,7 +37,7 @@ pub data AfterBracket (in_bracket : Bool) (depth : ℕ) (due : Bool) (rest : Lis
   Open : bracket_length depth rest ≡ length rest → term_length in_bracket (at (suc depth) due) rest ≡ length rest
       → AfterBracket in_bracket depth due rest
 
--- a token closes the outermost bracket, or one more stands in it
+-- a token is inside the outermost bracket, or closes it
 data Step (role : Role) (depth : ℕ) (due : Bool) : Type 0 where
   Stays : depth_after role depth ≡ Some (after role (at depth due)).depth → Step role depth due
   Shuts : role ≡ roles.Closes → depth ≡ 0 → Step role depth due
@@ -47,7 +48,7 @@ step roles.Closes (suc depth) due = Stays (ap (λ (b : Bool). if b then None els
 step role depth due = Stays refl
 
 module _ (in_bracket : Bool) where
-  -- in brackets a term doesn't end
+  -- a term doesn't end inside its brackets
   one_further : (depth : ℕ) (due : Bool) (sort : Sort) (rest : List Sort)
       → term_length in_bracket (at (suc depth) due) (sort ∷ rest)
       ≡ suc (term_length in_bracket (after (role_of sort) (at (suc depth) due)) rest)
@@ -99,7 +100,7 @@ module _ (in_bracket : Bool) where
   after_bracket depth due (sort ∷ rest) =
       one_token depth due sort rest (step (role_of sort) depth due) (λ next then_due. after_bracket next then_due rest)
 
-  -- with a `>`, and without one
+  -- the number of tokens of a term after its `<`, if it has the `>`, and if the `>` is missing
   closed_size : (rest : List Sort) (inside more : ℕ) → AfterBracket in_bracket 0 true rest → inside ≡ bracket_length 0 rest
       → inside < length rest → more ≡ term_length in_bracket (at 0 false) (drop (suc inside) rest)
       → inside + 1 + more ≡ term_length in_bracket opened rest
@@ -133,7 +134,7 @@ one_in : (next : Option ℕ) (count : ℕ) (items : List Item) → option_map_or
 one_in None count items le others = refl
 one_in (Some depth) count items le others = ap (λ (n : ℕ). suc n) (others depth (omega arith))
 
--- tokens after a bracket's end make no difference to where it is
+-- tokens after the end of a bracket make no difference to where the bracket ends
 inner_length : (depth count : ℕ) (items : List Item) → bracket_length depth (sorts_of items) ≤ count
     → bracket_length depth (sorts_of (take count items)) ≡ bracket_length depth (sorts_of items)
 inner_length depth zero items le = omega arith
@@ -141,7 +142,7 @@ inner_length depth (suc count) [] le = refl
 inner_length depth (suc count) (item ∷ items) le =
     one_in (depth_after (role_of item.sort) depth) count items le (λ d inner. inner_length d count items inner)
 
--- where a term with some tokens has all that stands in its bracket, and the `>` if one is there
+-- the value of a term whose tokens include all tokens inside its bracket, and the `>` if there is one
 bracket_term : (radix : Radix) (item : Item) (items : List Item) (count : ℕ) → prefix_of item.sort ≡ Some Bracket
     → bracket_length 0 (sorts_of items) ≤ count
     → nat_lt (bracket_length 0 (sorts_of items)) (length (take count items)) ≡ nat_lt (bracket_length 0 (sorts_of items)) (length items)

@@ -22,7 +22,7 @@ use Rattle.m11_scan_expressions.specs.Values.{sorts_of, split_value, term_value,
 use Rattle.m11_scan_expressions.proofs.Folds.{size_of}
 use Rattle.m11_scan_expressions.proofs.Parts.{value_by_parts}
 
--- ---- what stands before a term makes a term with it
+-- ---- a sign or another prefix and the term after it are a term
 
 after_sign : (sort : Sort) (rest : List Sort) → role_of sort ≡ roles.Sign → last_operator begin rest ≡ None
     → last_operator begin (sort ∷ rest) ≡ None
@@ -47,7 +47,7 @@ prefixed_term mark term is one = after_prefix mark.sort (sorts_of term) is one
 
 -- ---- its value
 
--- what stands before all that follows
+-- if a prefix applies to all tokens after it, the value is the prefix applied to the value of these tokens
 prefixed_value : (radix : Radix) (mark : Item) (term : List Item) (prefix : Prefix) → IsTerm (mark ∷ term)
     → prefix_of mark.sort ≡ Some prefix → reach prefix (sorts_of term) ≡ length (sorts_of term)
     → value_of radix (mark ∷ term)

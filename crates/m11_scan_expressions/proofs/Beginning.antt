@@ -1,4 +1,4 @@
--- An expression stands where a token stands that can begin one.
+-- An expression begins at a token exactly if the token can begin one.
 use Rattle.std.proofs.Common.{◌≡◌, ℕ, take, List, ◌∷◌, Option, Some, None, refl, map, not}
 use Rattle.std.specs.Option.{is_some}
 use Rattle.m11_scan_expressions.specs.Tokens.{is_empty, plain}

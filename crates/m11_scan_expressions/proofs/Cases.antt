@@ -19,7 +19,7 @@ use Rattle.m11_scan_expressions.specs.Terms.{Atom, Fixed, Item, atom_of, is_coun
 use Rattle.m11_scan_expressions.specs.Values.{value_of}
 use Rattle.m11_scan_expressions.proofs.Meanings.{with_atom}
 
--- a character in upper case
+-- the character at a column of a text that is in upper case; a blank past the text's end
 abbrev at_folded : List ℕ → ℕ → ℕ
 at_folded text column = if nat_lt column (length text) then get_or text column 0 else 32
 
@@ -51,7 +51,7 @@ same_characters a b (column ∷ columns) h =
     ap (λ (c : ℕ). c ∷ map (character_at a) columns) (same_character a b column h)
     ∙ ap (λ (l : List ℕ). character_at b column ∷ l) (same_characters a b columns h)
 
--- no flag is a point
+-- a character in upper case is a point exactly if the character itself is one
 folded_point : (byte : ℕ) → eqb (folded byte) 46 ≡ eqb byte 46
 folded_point byte = grind (arith, nat_tests)
 

@@ -1,4 +1,4 @@
--- Where no expression can begin there is none.
+-- There is no expression where the next token can't begin one.
 use Rattle.std.proofs.Common.{◌≡◌, ◌∙◌, ℕ, false, List, [], ◌∷◌, map, take, Option, Some, None, refl, ap, sym, true≢false}
 use Rattle.std.specs.Option.{is_some}
 use Rattle.m11_scan.specs.Cutting.{Lexeme, tokens_from}
@@ -22,13 +22,13 @@ nothing_taken token tokens is =
     ap (λ (found : Option Within). take (count_from found (λ next. taken (map sort_in tokens) next)) (token ∷ tokens))
     (no_more (goes_on (role_of token.sort) begin) is)
 
--- the value of no token: a term is missing
+-- the value of an expression without tokens is that of a missing term
 pub none_value : (known : KnownSymbols) → missing ≡ value known []
 unfolding value_of
 none_value known = refl
 
 module _ (line : List ℕ) (column : ℕ) where
-  -- the expression at a column before such a token, or at the end
+  -- there is no expression at a column before a token that can't begin one, or after the last token
   pub none_before : (token : Lexeme) (tokens : List Lexeme) → tokens_from line column ≡ token ∷ tokens
       → is_some (goes_on (role_of token.sort) begin) ≡ false → expression line column ≡ []
   none_before token tokens e is =
@@ -45,6 +45,6 @@ module _ (line : List ℕ) (column : ℕ) where
   ends_there e =
       ap (λ (l : List Lexeme). column_after column l) (none_of (taken_of begin (tokens_from line column)) e)
 
-  -- the expression that is one term
+  -- if an expression is a single term, it consists of this token
   pub one_term : (term : Token) → IsAlone line column term → plain (lexeme line term) ∷ [] ≡ expression line column
   one_term term alone = ap (λ (l : List Lexeme). map plain l) (sym alone.1)

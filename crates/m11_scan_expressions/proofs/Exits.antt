@@ -1,4 +1,4 @@
--- What an expression's value is, and how many tokens it has, at each place where its functions return.
+-- The value of an expression and the number of its tokens, at each place where a function that reads it returns.
 use Rattle.std.proofs.Common.{◌≡◌, ℕ, zero, suc, ◌+◌, ◌-◌, ◌<◌, ◌≤◌, Bool, false, List, [], ◌∷◌, length, map, take, drop, get_or, Option, Some, None, true, nat_lt, refl, sym, ap, ◌∙◌, subst, arith, add-one}
 use Rattle.std.proofs.lemmas.List.{length-drop, length-map, take_rest, take-map, drop-map}
 use Rattle.m11_scan.specs.Expressions.{begin, role_of, sort_of}
@@ -21,14 +21,14 @@ use Rattle.m11_scan_expressions.proofs.AfterBrackets.{bracket_value, closed_leng
 use Rattle.m11_scan_expressions.proofs.PlainPrefixes.{IsPlain, no_bracket, plain_length, plain_term}
 use Rattle.m11_scan_expressions.proofs.ReadTokens.{Reads, TermOf, as_term, reads_all, reads_first, reads_next, term_of}
 
--- the tokens after the first one, and from one on, as a slice has them
+-- the tokens after the first one, and those after the first `count`, as slices have them
 abbrev pub rest_of : List Token → List Token
 rest_of tokens = take (length tokens - 1) (drop 1 tokens)
 
 abbrev pub rest_from : ℕ → List Token → List Token
 rest_from count tokens = take (length tokens - count) (drop count tokens)
 
--- where an operator stands next, a token is left
+-- if an operator comes next, a token is left
 some_from : (count : ℕ) (tokens : List Token) (operator : Operator) (found : List Token) → drop count tokens ≡ found
     → Some operator ≡ operator_after (map sort_of found) → count < length tokens
 some_from count tokens operator [] found is = absurd (cc)
@@ -46,7 +46,7 @@ some_left count tokens operator is =
 one_and : (n : ℕ) → 1 + n ≡ suc n
 one_and n = omega arith
 
--- ---- how many tokens a term has that begins with a bracket
+-- ---- the number of tokens of a term that begins with a bracket
 
 abbrev sorts_from : ℕ → List Token → List Sort
 sorts_from count tokens = map sort_of (rest_from count tokens)
@@ -73,7 +73,7 @@ open_exit in_bracket tokens inside reached unclosed =
     let le : length (map sort_of tokens) ≤ inside = omega arith in
     sym size ∙ open_length in_bracket (map sort_of tokens) inside reached le
 
--- a token that is a term stands before none
+-- a token that is a term isn't a prefix
 term_prefix : (sort : Sort) → is_term (role_of sort) ≡ true → prefix_of sort ≡ None
 term_prefix Plus term = absurd (cc)
 term_prefix Minus term = absurd (cc)
@@ -85,7 +85,7 @@ term_prefix DecimalRadix term = absurd (cc)
 term_prefix Less term = absurd (cc)
 term_prefix sort term = refl
 
--- ---- how many tokens a term has with what stands before it
+-- ---- the number of tokens of a term with a prefix
 
 module _ (in_bracket : Bool) where
   pub plain_size : (tokens : List Token) (default : Token) (prefix : Prefix) (count : ℕ)
@@ -101,14 +101,14 @@ module _ (in_bracket : Bool) where
       (is ∙ ap (λ (l : List Token). term_length in_bracket begin (map sort_of l)) (take_rest (token ∷ more) 1))
       ∙ sym (plain_length in_bracket token.sort (map sort_of more) prefix (sym found) (no_bracket prefix other))
 
--- ---- an expression, and terms with what stands before them
+-- ---- an expression, and terms with prefixes
 
 module _ (stands_for : Symbol → Quantity) (line : List ℕ) (in_bracket : Bool) (radix : Radix) where
   sorts_seen : (tokens : List Token) → sorts_of (items_of stands_for line tokens) ≡ map sort_of tokens
   sorts_seen [] = refl
   sorts_seen (token ∷ tokens) = ap (λ (sorts : List Sort). token.sort ∷ sorts) (sorts_seen tokens)
 
-  -- what was read, by the tokens
+  -- the first `count` of these tokens were read, and have this value
   abbrev pub ReadsOf : List Token → ℕ → Quantity → Type 0
   ReadsOf tokens count value =
       Reads in_bracket radix (take count (items_of stands_for line tokens)) (drop count (items_of stands_for line tokens)) value
@@ -126,7 +126,7 @@ module _ (stands_for : Symbol → Quantity) (line : List ℕ) (in_bracket : Bool
       ap (λ (l : List Token). items_of stands_for line l) (take_rest tokens count)
       ∙ sym (drop-map (seen stands_for line) count tokens)
 
-  -- the tokens from an operator on
+  -- the tokens after an operator
   one_less : (count : ℕ) (tokens : List Token) (mark : Token) (back : List Token) → drop count tokens ≡ mark ∷ back
       → drop (count + 1) tokens ≡ back
   one_less zero tokens mark back is = ap (λ (l : List Token). drop 1 l) is

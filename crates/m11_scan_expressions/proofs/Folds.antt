@@ -1,4 +1,4 @@
--- The value of what operators join, by the values of the parts.
+-- The value of terms that are joined by operators, from the values of the parts.
 use Rattle.std.proofs.Common.{◌≡◌, ℕ, zero, suc, Bool, true, false, List, [], ◌∷◌, ◌++◌, length, take, drop, Option, Some, None, refl, sym, ap, ◌∙◌, arith, eqb, if◌then◌else◌}
 use Rattle.std.proofs.lemmas.List.{append_assoc, append-nil, length-map, map-append}
 use Rattle.std.proofs.lemmas.Bool.{ne_eqb}
@@ -23,7 +23,7 @@ use Rattle.m11_scan_expressions.proofs.Parts.{value_by_parts}
 abbrev found : ℕ → Operator → Option Split
 found index operator = Some (record { index = index; operator = operator })
 
--- an operator after which none stands outside brackets is the last one
+-- an operator is the last one if no other follows it outside brackets
 last_found : (within : Within) (front : List Sort) (sort : Sort) (back : List Sort) (operator : Operator)
     → operator_at sort (within_after within front) ≡ Some operator
     → last_operator (after (role_of sort) (within_after within front)) back ≡ None
@@ -79,12 +79,12 @@ at_depth sort (suc depth) due operator h =
     let no : None ≡ Some operator = sym (ap (λ (b : Bool). if b then operator_of due sort else None) other) ∙ h in
     cc
 
--- outside brackets
+-- after an operator outside brackets, the state is the same as at the beginning of an expression
 pub operator_outside : (sort : Sort) (within : Within) (operator : Operator) → operator_at sort within ≡ Some operator
     → after (role_of sort) within ≡ begin
 operator_outside sort within operator h = at_depth sort within.depth within.is_due operator h
 
--- a token that is a term is neither an operator nor stands before a term
+-- a token that is a term is neither a prefix nor an operator
 no_prefix : (sort : Sort) → role_of sort ≡ Term → prefix_of sort ≡ None
 no_prefix Name h = refl
 no_prefix Number h = refl
@@ -178,7 +178,7 @@ joined_value radix front back mark operator here none =
     (front_is front (mark ∷ back))
     ∙ ap (λ (l : List Item). combined operator (value_of radix front) (value_of radix l)) (back_is front mark back)
 
--- the value of a term of one token
+-- the value of a term of one token is the value of the token
 single_value : (radix : Radix) (term : Item) → role_of term.sort ≡ Term → value_of radix (term ∷ []) ≡ atom_value radix term.atom
 single_value radix term is =
     value_by_parts radix (term ∷ [])
@@ -192,7 +192,7 @@ pub within-append : (within : Within) (front back : List Sort) → within_after 
 within-append within [] back = refl
 within-append within (sort ∷ front) back = within-append (after (role_of sort) within) front back
 
--- one step more stands after a term again
+-- after one more step the state is again the one after a term
 step_within : (front : List Item) (step : Step) → within_after begin (sorts_of front) ≡ after_term
     → operator_of false step.mark.sort ≡ Some step.operator → role_of step.term.sort ≡ Term
     → within_after begin (sorts_of (front ++ step.mark ∷ step.term ∷ [])) ≡ after_term

@@ -1,4 +1,4 @@
--- Flags that a part of an expression has further are flags of the whole.
+-- Flags that are added to a part of an expression are added to the whole.
 use Rattle.std.proofs.Common.{◌≡◌, ℕ, ◌-◌, ◌%◌, Bool, true, false, max, Option, Some, None, nat_lt, refl, sym, ap, ◌∙◌, arith, ◌&&◌, ◌||◌, if◌then◌else◌}
 use Rattle.std.proofs.lemmas.Nat.Bits.{bit_at_or, same_from_bits}
 use Rattle.std.specs.Int.{bit_at}
@@ -51,7 +51,7 @@ module _ (further : ℕ) where
   settled_keeps None number flags has_register =
       ap (λ (l : ℕ). absolute number l) (or_swap flags (refusal has_register) further)
 
-  -- an operator hands on those of its right side
+  -- flags that are added to the right side of an operator are added to its result
   pub combined_keeps : (operator : Operator) (left right : Quantity)
       → with_flags further (combined operator left right) ≡ combined operator left (with_flags further right)
   combined_keeps operator left right =
@@ -69,7 +69,7 @@ module _ (further : ℕ) where
       ≡ absolute number (bit_or (bit_or value.flags further) (absence value.kind))
   replaced_keeps value number = ap (λ (l : ℕ). absolute number l) (or_swap value.flags (absence value.kind) further)
 
-  -- what stands before a term hands on those of the term
+  -- flags that are added to a term are added to the result of its prefix
   pub applied_keeps : (prefix : Prefix) (is_closed : Bool) (value : Quantity)
       → with_flags further (applied prefix is_closed value) ≡ applied prefix is_closed (with_flags further value)
   applied_keeps Plus is_closed value = refl

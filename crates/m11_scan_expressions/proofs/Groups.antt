@@ -1,4 +1,4 @@
--- The value in brackets of an expression whose own brackets are closed.
+-- The value of an expression in brackets, if its own brackets are closed.
 use Rattle.std.proofs.Common.{◌≡◌, ℕ, zero, suc, ◌+◌, ◌-◌, Bool, true, false, List, [], ◌∷◌, ◌++◌, length, take, Option, Some, None, nat_lt, refl, sym, ap, ◌∙◌, arith, eqb, if◌then◌else◌}
 use Rattle.std.proofs.lemmas.List.{length-append}
 use Rattle.std.proofs.lemmas.Bool.{ne_eqb, lt-ltb}
@@ -22,14 +22,14 @@ use Rattle.m11_scan_expressions.proofs.Folds.{front_is, size_of, sorts-append}
 abbrev pub at : ℕ → Bool → Within
 at depth due = record { depth = depth; is_due = due }
 
--- within one bracket more
+-- the same state inside one more bracket
 abbrev pub deeper : Within → Within
 deeper within = at (suc within.depth) within.is_due
 
 pub not_zero : (depth : ℕ) → eqb (suc depth) 0 ≡ false
 not_zero depth = ne_eqb (suc depth) 0 (λ e. omega arith)
 
--- where an expression goes on, no outer bracket is closed, and it goes on after that token
+-- an expression continues with a token: the token closes no outer bracket, and `more` further tokens are counted after it
 pub record Goes (role : Role) (within : Within) (count : Within → ℕ) (more : ℕ) : Type 0 where
   pub stays : depth_after role within.depth ≡ Some (after role within).depth
   pub rest : count (after role within) ≡ more
@@ -59,7 +59,7 @@ goes Closes zero due count more h = absurd (omega arith)
 goes Closes (suc depth) due count more h = close_goes depth due count more h
 goes Foreign depth due count more h = absurd (omega arith)
 
--- in one bracket more it goes the same way
+-- inside one more bracket, the state after a token is the same but for this bracket
 pub at_depth : (a b : ℕ) (due : Bool) → a ≡ b → at a due ≡ at b due
 at_depth a b due e = ap (λ (n : ℕ). at n due) e
 
@@ -77,7 +77,7 @@ deeper_after Foreign depth due h = refl
 no_operator_in : (sort : Sort) (within : Within) → operator_at sort (deeper within) ≡ None
 no_operator_in sort within = ap (λ (b : Bool). if b then operator_of within.is_due sort else None) (not_zero within.depth)
 
--- in brackets no operator stands outside them
+-- an expression in brackets has no operator outside these brackets
 none_inside : (within : Within) (sorts rest : List Sort) → taken sorts within ≡ length sorts
     → last_operator (deeper (within_after within sorts)) rest ≡ None → last_operator (deeper within) (sorts ++ rest) ≡ None
 none_inside within [] rest whole none = none

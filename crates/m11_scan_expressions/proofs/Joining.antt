@@ -1,4 +1,4 @@
--- What is noted in parts is what is noted at once.
+-- Remarks that are added in parts are the same as if they were added at once.
 use Rattle.std.proofs.Common.{◌≡◌, ℕ, List, [], ◌++◌, max, sym, ap, ◌∙◌, arith}
 use Rattle.std.proofs.lemmas.List.{append-nil, append_assoc}
 use Rattle.std.proofs.lemmas.Nat.Bits.{bit_at_or, same_from_bits}

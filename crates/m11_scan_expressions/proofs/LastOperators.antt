@@ -1,4 +1,4 @@
--- The last operator of some tokens, one token after the other.
+-- The last operator of a list of tokens, found token by token.
 use Rattle.std.proofs.Common.{ℕ, suc, ◌<◌, List, [], ◌∷◌, length, Option, Some, None, arith}
 use Rattle.m11_scan.specs.Expressions.{role_of}
 use Rattle.m11_scan.specs.declared.expressions.Within.{Within}
@@ -15,7 +15,7 @@ later_below size here (Some split) below = omega arith
 later_below size (Some operator) None below = omega arith
 later_below size None None below = tt
 
--- it is one of the tokens
+-- the last operator is one of the tokens
 pub last_below : (within : Within) (sorts : List Sort) → IsBelow (length sorts) (last_operator within sorts)
 last_below within [] = tt
 last_below within (sort ∷ sorts) =

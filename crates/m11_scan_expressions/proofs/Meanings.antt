@@ -1,4 +1,4 @@
--- Expressions whose tokens stand for the same have the same value.
+-- An expression has the same value under two functions that agree on its symbols.
 use Rattle.std.proofs.Common.{◌≡◌, ℕ, List, [], ◌∷◌, Option, Some, None, refl, ap, ◌∙◌}
 use Rattle.std.specs.Prelude.{option_map, unwrap_or}
 use Rattle.std.specs.List.{cons_option}
@@ -14,7 +14,7 @@ use Rattle.m11_scan_expressions.specs.Symbols.{AgreeOn, symbols_of}
 use Rattle.m11_scan_expressions.specs.Terms.{Atom, Fixed, Item, atom_of, symbol_in}
 use Rattle.m11_scan_expressions.specs.Values.{items_of, seen, value_of}
 
--- a token stands for the same where its symbol does
+-- a token has the same value under two functions that agree on its symbol
 meaning_agrees : (first second : Symbol → Quantity) (other : Quantity) (symbol : Option Symbol)
     → AgreeOn (cons_option symbol []) first second → unwrap_or (option_map first symbol) other ≡ unwrap_or (option_map second symbol) other
 meaning_agrees first second other None agree = refl

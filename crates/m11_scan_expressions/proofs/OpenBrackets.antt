@@ -1,5 +1,5 @@
--- The value of an expression in brackets. Where a bracket of the expression itself isn't closed, the `>` closes that one, and the
--- outer bracket isn't closed: the value and its flags stay the same.
+-- The value of an expression in brackets. If a bracket of the expression itself isn't closed, the `>` closes that one, and the outer
+-- bracket isn't closed: the value and its flags stay the same.
 use Rattle.std.proofs.Common.{◌≡◌, ℕ, zero, suc, ◌+◌, ◌-◌, ◌<◌, ◌≤◌, Bool, true, false, List, [], ◌∷◌, ◌++◌, length, take, drop, Option, Some, None, nat_lt, refl, sym, ap, ◌∙◌, subst, arith, eqb, if◌then◌else◌}
 use Rattle.std.proofs.Math.Seq.{take-length}
 use Rattle.std.proofs.lemmas.Bool.{le-ltb}
@@ -33,7 +33,7 @@ use Rattle.m11_scan_expressions.proofs.LastOperators.{IsBelow, last_below}
 use Rattle.m11_scan_expressions.proofs.Parts.{value_by_parts}
 use Rattle.m11_scan_expressions.proofs.PlainPrefixes.{IsPlain, none_here, none_later, plain_term}
 
--- an expression goes on through all of some tokens, and a bracket is open after them
+-- all of these tokens continue an expression, and a bracket is open after them
 record IsOpen (within : Within) (sorts : List Sort) : Type 0 where
   whole : taken sorts within ≡ length sorts
   inside : 0 < (within_after within sorts).depth
@@ -42,7 +42,7 @@ rest_open : (within : Within) (rest : List Sort) → suc (taken rest within) ≡
     → 0 < (within_after within rest).depth → IsOpen within rest
 rest_open within rest whole inside = record { whole = omega arith; inside = inside }
 
--- after a term only an operator goes on outside brackets
+-- outside brackets, an expression continues after a term only with an operator
 stops : (sort : Sort) → operator_of false sort ≡ None → goes_on (role_of sort) (at 0 false) ≡ None
 stops tokens.Plus h = absurd (cc)
 stops tokens.Minus h = absurd (cc)
@@ -52,7 +52,7 @@ stops tokens.And h = absurd (cc)
 stops tokens.Or h = absurd (cc)
 stops sort h = refl
 
--- so without one nothing opens a bracket after it
+-- so no bracket is open after tokens that follow a term and have no operator outside brackets
 no_more : (sorts : List Sort) → IsOpen (at 0 false) sorts → last_operator (at 0 false) sorts ≡ None → ⊥
 no_more [] is none = omega (arith, is.inside)
 no_more (sort ∷ rest) is none =
@@ -62,7 +62,7 @@ no_more (sort ∷ rest) is none =
     sym (ap (λ (p : Option Within). count_from p (λ next. taken rest next)) (stops sort here)) ∙ is.whole in
     omega arith
 
--- the first token of an expression that has an open bracket and no operator outside brackets
+-- the first token of an expression that has an open bracket and no operator outside brackets: a prefix or a `<`
 data First (sort : Sort) (rest : List Sort) : Type 0 where
   Before : (prefix : Prefix) → prefix_of sort ≡ Some prefix → IsPlain prefix → IsOpen begin rest → First sort rest
   Bracketed : sort ≡ tokens.Less → IsOpen (deeper begin) rest → last_operator (deeper begin) rest ≡ None → First sort rest
@@ -99,7 +99,7 @@ first tokens.And rest is none = no_first And tokens.And rest (last_operator begi
 first tokens.Or rest is none = no_first Or tokens.Or rest (last_operator begin rest) none
 first sort rest is none = absurd (omega (arith, is.whole))
 
--- where a bracket before some tokens isn't closed by them, they are an expression of their own
+-- if tokens don't close the bracket before them, they are an expression by themselves
 abbrev IsWithin : List Sort → Type 0
 IsWithin sorts =
     (within : Within) → IsOpen (deeper within) sorts → last_operator (deeper within) sorts ≡ None → taken sorts within ≡ length sorts
@@ -142,7 +142,7 @@ all_within (sort ∷ rest) within is none =
     one_within (role_of sort) within.depth within.is_due rest (all_within rest) (record { whole = g.rest; inside = is.inside })
     (none_later (operator_at sort (deeper within)) (last_operator (after (role_of sort) (deeper within)) rest) none) is.whole
 
--- what stands after the last operator is an expression of its own, with the same bracket open
+-- the tokens after the last operator are an expression by themselves, with the same bracket open
 abbrev index_in : Option Split → ℕ
 index_in None = 0
 index_in (Some split) = split.index
@@ -170,7 +170,7 @@ right_open within (sort ∷ rest) split found is =
     (λ next e. right_open (after (role_of sort) within) rest next e more)
     (λ operator e. subst P (operator_outside sort within operator e) more)
 
--- the value by the parts, in each of the cases
+-- the value of an expression from the values of its parts, in each case
 split_is : (radix : Radix) (items : List Item) (split : Split) → last_operator begin (sorts_of items) ≡ Some split
     → value_of radix items
     ≡ combined split.operator (value_of radix (take split.index items)) (value_of radix (drop (suc split.index) items))
@@ -210,7 +210,7 @@ no_operator true = refl
 no_operator false = refl
 
 module _ (greater : Item) (closes : greater.sort ≡ tokens.Greater) where
-  -- a `>` more gives back the value of an expression that has an open bracket, but for the Q
+  -- with one more `>`, an expression with an open bracket has the same value, apart from the flag Q
   abbrev Keeps : Radix → List Item → Type 0
   Keeps radix items = with_flags flag_Q (value_of radix (items ++ greater ∷ [])) ≡ value_of radix items
 
@@ -276,7 +276,7 @@ module _ (greater : Item) (closes : greater.sort ≡ tokens.Greater) where
         (outer_length depth inside)
         ∙ keeps (omega arith)
 
-  -- what holds of each shorter expression
+  -- the same holds for each expression that has at most as many tokens as these
   abbrev Shorter : List Item → Type 0
   Shorter items = (radix : Radix) (part : List Item) → length part ≤ length items → IsOpen begin (sorts_of part) → Keeps radix part
 

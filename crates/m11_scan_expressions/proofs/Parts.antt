@@ -1,4 +1,4 @@
--- The value of an expression by the values of its parts.
+-- The value of an expression from the values of its parts.
 use Rattle.std.proofs.Common.{◌≡◌, ℕ, zero, suc, ◌<◌, ◌≤◌, List, [], ◌∷◌, length, take, drop, Option, Some, None, refl, ap, ◌∙◌, subst, arith, nat_lt}
 use Rattle.std.proofs.lemmas.List.{length-take, length-drop, length-map}
 use Rattle.m11_scan.specs.Expressions.{begin}
@@ -12,7 +12,7 @@ use Rattle.m11_scan_expressions.specs.Terms.{Item}
 use Rattle.m11_scan_expressions.specs.Values.{by_parts, sorts_of, split_value, term_value, value_of, value_within}
 use Rattle.m11_scan_expressions.proofs.LastOperators.{IsBelow, last_below}
 
--- two ways to give lists values agree on lists of less than a size
+-- two functions yield the same values for lists that are shorter than this size
 abbrev Agree : ℕ → (Radix → List Item → Quantity) → (Radix → List Item → Quantity) → Type 0
 Agree size f g = (radix : Radix) (items : List Item) → length items < size → f radix items ≡ g radix items
 
@@ -51,7 +51,7 @@ parts_agree : (f g : Radix → List Item → Quantity) (radix : Radix) (items : 
 parts_agree f g radix items agree =
     split_agrees f g radix items (last_operator begin (sorts_of items)) (below_length items) agree
 
--- a bound of at least the number of tokens says nothing
+-- the value is the same with any bound that is at least the number of tokens
 bounds_agree : (n m : ℕ) (radix : Radix) (items : List Item) → length items ≤ n → length items ≤ m
     → value_within n radix items ≡ value_within m radix items
 bounds_agree zero zero radix items a b = refl

@@ -1,4 +1,4 @@
--- What stands before a term and isn't a bracket stands before all that follows.
+-- A prefix other than a bracket applies to all tokens after it.
 use Rattle.std.proofs.Common.{◌≡◌, ℕ, suc, Bool, false, List, ◌∷◌, length, take, Option, Some, None, nat_lt, refl, ap, ◌∙◌, subst}
 use Rattle.std.proofs.Math.Seq.{take-length}
 use Rattle.m11_scan.specs.Expressions.{begin}
@@ -42,7 +42,7 @@ plain_alike : (prefix : Prefix) (a b : Bool) (value : Quantity) → IsPlain pref
 plain_alike Bracket a b value plain = absurd plain
 plain_alike prefix a b value plain = refl
 
--- so it is applied to their value
+-- the value of a term with such a prefix is the prefix applied to the value of the tokens after it
 pub plain_term : (radix : Radix) (item : Item) (items : List Item) (prefix : Prefix) → prefix_of item.sort ≡ Some prefix
     → IsPlain prefix → value_as_term radix (item ∷ items) ≡ applied prefix false (value_of (radix_under prefix radix) items)
 plain_term radix item items prefix is plain =
@@ -59,7 +59,7 @@ no_plain prefix is plain =
     let P : Prefix → Type 0 = λ p. IsPlain p in
     subst P e plain
 
--- and it has one token more with it
+-- a term has one more token with such a prefix than without it
 pub plain_length : (in_bracket : Bool) (sort : Sort) (rest : List Sort) (prefix : Prefix) → prefix_of sort ≡ Some prefix
     → IsPlain prefix → term_length in_bracket begin (sort ∷ rest) ≡ suc (term_length in_bracket begin rest)
 plain_length in_bracket tokens.Plus rest prefix is plain = refl

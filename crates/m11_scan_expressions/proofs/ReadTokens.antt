@@ -1,4 +1,4 @@
--- How many tokens a term has and an expression, as they are read from left to right, and what values they have.
+-- The number of tokens and the value of a term and of an expression, which are read from left to right.
 use Rattle.std.proofs.Common.{◌≡◌, ℕ, zero, suc, ◌+◌, ◌-◌, ◌≤◌, Bool, true, false, ◌&&◌, List, [], ◌∷◌, ◌++◌, length, take, drop, Option, Some, None, refl, sym, ap, ◌∙◌, subst, arith, eqb, if◌then◌else◌}
 use Rattle.std.proofs.lemmas.Bool.{and_parts}
 use Rattle.std.proofs.lemmas.List.{append_assoc, length-append, length-take-le, take-append-drop}
@@ -92,7 +92,7 @@ none_here : (in_bracket : Bool) (within : Within) (sort : Sort) → ends_term in
     → operator_at sort within ≡ None
 none_here in_bracket within sort goes = none_if (eqb within.depth 0) in_bracket within.is_due sort goes
 
--- ---- how many tokens an expression has, one token after the other
+-- ---- the number of tokens of an expression, token by token
 
 next_length : (in_bracket : Bool) (depth next : ℕ) (sort : Sort) (rest : List Sort) → depth_after (role_of sort) depth ≡ Some next
     → part_length in_bracket depth (sort ∷ rest) ≡ suc (part_length in_bracket next rest)
@@ -105,7 +105,7 @@ stays roles.Closes zero due goes = absurd (cc)
 stays roles.Closes (suc depth) due goes = ap (λ (b : Bool). if b then None else Some (suc depth - 1)) (not_zero depth)
 stays role depth due goes = refl
 
--- a token before which a term doesn't end
+-- a token before which a term doesn't end is one more token of the expression
 token_length : (in_bracket : Bool) (within : Within) (sort : Sort) (rest : List Sort)
     → ends_term in_bracket within (role_of sort) ≡ false
     → part_length in_bracket within.depth (sort ∷ rest) ≡ suc (part_length in_bracket (after (role_of sort) within).depth rest)
@@ -127,7 +127,7 @@ operator_stays sort (suc depth) due operator here =
     let no : None ≡ Some operator = sym (ap (λ (b : Bool). if b then operator_of due sort else None) (not_zero depth)) ∙ here in
     absurd (cc)
 
--- an operator between two terms
+-- an operator outside brackets is one more token of the expression
 operator_length : (in_bracket : Bool) (within : Within) (sort : Sort) (rest : List Sort) (operator : Operator)
     → operator_at sort within ≡ Some operator
     → part_length in_bracket within.depth (sort ∷ rest) ≡ suc (part_length in_bracket 0 rest)
@@ -145,7 +145,7 @@ pub record Reach (in_bracket : Bool) (within : Within) (front back : List Item) 
   pub size : part_length in_bracket within.depth (sorts_of (front ++ back))
       ≡ length front + part_length in_bracket (within_after within (sorts_of front)).depth (sorts_of back)
 
--- no operator stands in a term outside brackets
+-- the first `count` of these tokens are a term: they have no operator outside brackets, and the term ends after them
 pub record TermOf (in_bracket : Bool) (within : Within) (items : List Item) (count : ℕ) : Type 0 where
   pub none : last_operator within (sorts_of (take count items)) ≡ None
   pub reach : Reach in_bracket within (take count items) (drop count items)
@@ -200,7 +200,7 @@ module _ (in_bracket : Bool) where
       by_end within item items (term_length in_bracket (after (role_of item.sort) within) (sorts_of items))
       (ends_term in_bracket within (role_of item.sort)) refl (term_of (after (role_of item.sort) within) items)
 
--- ---- an operator and one term more
+-- ---- an operator and one more term
 
 module _ (in_bracket : Bool) (front : List Item) (mark : Item) (term rest : List Item) (operator : Operator)
     (here : operator_at mark.sort (within_after begin (sorts_of front)) ≡ Some operator) where
@@ -243,7 +243,7 @@ pub as_term : (radix : Radix) (items : List Item) → last_operator begin (sorts
 as_term radix items none =
     value_by_parts radix items ∙ ap (λ (s : Option Split). split_value value_of radix items s) none
 
--- its first term
+-- the first term of an expression was read
 pub reads_first : (in_bracket : Bool) (radix : Radix) (items : List Item) (count : ℕ) (value : Quantity)
     → count ≡ term_length in_bracket begin (sorts_of items) → value ≡ value_as_term radix (take count items)
     → Reads in_bracket radix (take count items) (drop count items) value
@@ -272,7 +272,7 @@ drop_past (suc count) more (item ∷ items) mark back is =
     let e : suc count + (more + 1) ≡ suc (count + (more + 1)) = omega arith in
     ap (λ (n : ℕ). drop n (item ∷ items)) e ∙ drop_past count more items mark back is
 
--- an operator and the term after it
+-- an operator and the term after it were read
 joins : (in_bracket : Bool) (radix : Radix) (front : List Item) (mark : Item) (term rest : List Item) (operator : Operator)
     (value next : Quantity) → Reads in_bracket radix front (mark ∷ (term ++ rest)) value
     → operator_of false mark.sort ≡ Some operator → last_operator begin (sorts_of term) ≡ None

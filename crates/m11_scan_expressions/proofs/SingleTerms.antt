@@ -1,4 +1,4 @@
--- The value of a term that stands alone.
+-- The value of an expression that is a single term.
 use Rattle.std.proofs.Common.{◌≡◌, [], ◌∷◌, refl}
 use Rattle.m11_scan.specs.Expressions.{role_of}
 use Rattle.m11_scan.specs.declared.expressions.Role.TheVariants.{Term}

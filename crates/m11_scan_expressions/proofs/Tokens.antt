@@ -1,4 +1,4 @@
--- Tokens as the code holds them, and as the definitions see them.
+-- Tokens of the code, and the tokens of the definitions that they represent.
 use Rattle.std.proofs.Common.{◌≡◌, ◌∙◌, List, [], ◌∷◌, map, refl, ap}
 use Rattle.std.specs.List.{cons_option}
 use Rattle.m11_base.specs.Devices.{Bytes}
@@ -25,7 +25,7 @@ each_symbol line [] = refl
 each_symbol line (token ∷ tokens) =
     ap (λ (l : List Symbol). cons_option (symbol_in token.sort (text_between line token.start token.end)) l) (each_symbol line tokens)
 
--- the value of an expression that has all of some tokens
+-- tokens of the code have the value of the expression that they represent
 pub value_seen : (radix : Radix) (stands_for : Symbol → Quantity) (line : Bytes) (tokens : List Token) (all : List Lexeme)
     → map (lexeme line) tokens ≡ all
     → value_of radix (items_of stands_for line tokens) ≡ value_of radix (map (plain_item stands_for) (map plain all))
@@ -33,7 +33,7 @@ value_seen radix stands_for line tokens all same =
     ap (λ (l : List Item). value_of radix l)
     (items_seen stands_for line tokens ∙ ap (λ (l : List Lexeme). map (plain_item stands_for) (map plain l)) same)
 
--- the symbols that it reads
+-- tokens of the code have the symbols of the expression that they represent
 pub symbols_seen : (line : Bytes) (tokens : List Token) (all : List Lexeme) → map (lexeme line) tokens ≡ all
     → symbols_of line tokens ≡ symbols (map plain all)
 symbols_seen line tokens all same = each_symbol line tokens ∙ ap (λ (l : List Lexeme). symbols (map plain l)) same

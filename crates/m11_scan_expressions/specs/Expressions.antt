@@ -52,8 +52,8 @@ value_at known line column = value known (expression line column)
 abbrev pub number_at : KnownSymbols → Bytes → ℕ → ℕ
 number_at known line column = number known (expression line column)
 
--- the flags of the expression at a column: those of its value, R or A for a kind other than absolute, and I for a skipped
--- character before its end
+-- the flags of the expression at a column: those of its value, R for a register or A for another kind that isn't absolute, and I for a
+-- skipped character between the column and its end
 abbrev pub number_flags : KnownSymbols → Bytes → ℕ → ℕ
 number_flags known line column =
     bit_or (bit_or (value_at known line column).flags (absence (value_at known line column).kind))
@@ -69,7 +69,7 @@ abbrev pub is_term : Role → Bool
 is_term Term = true
 is_term role = false
 
--- whether a token with this role, after a term, joins it to another
+-- whether a token with this role joins the term before it to another term
 abbrev pub joins : Role → Bool
 joins Sign = true
 joins Operator = true
@@ -85,7 +85,7 @@ abbrev pub is_single : List Lexeme → Bool
 is_single [] = false
 is_single (token ∷ tokens) = is_term (role_of token.sort) && ends_before tokens
 
--- whether the token after a term, if there is one, joins it to another term
+-- whether the token after a term, if there is one, joins this term to another
 abbrev pub joins_next : Option Token → Bool
 joins_next (Some token) = joins (role_of token.sort)
 joins_next None = false
@@ -95,6 +95,6 @@ abbrev pub IsAlone : Bytes → ℕ → Token → Type 0
 IsAlone line column term =
     (role_of term.sort ≡ Term) × (taken_of begin (tokens_from line column) ≡ lexeme line term ∷ [])
 
--- a token is the next one from a column on
+-- a token is the first one of a line at or after a column
 abbrev pub IsNext : Bytes → ℕ → Token → Type 0
 IsNext line column token = tokens_from line column ≡ lexeme line token ∷ tokens_from line token.end

@@ -9,7 +9,7 @@ use Rattle.m11_scan_expressions.specs.declared.kinds.Kind.TheVariants.{Absolute,
 use Rattle.m11_scan_expressions.specs.declared.operators.Operator.{Operator}
 use Rattle.m11_scan_expressions.specs.declared.operators.Operator.TheVariants.{Add, Subtract}
 
--- the kind of an operator's result; no other pair of kinds is allowed
+-- the kind of an operator's result, by this table; none for any other pair of kinds, which isn't allowed
 --   +  an absolute number and any kind, on either side   that kind
 --   -  any kind, less an absolute number                 that kind
 --   -  two numbers of one section                        absolute

@@ -17,7 +17,7 @@ abbrev pub within_after : Within → List Sort → Within
 within_after within [] = within
 within_after within (sort ∷ sorts) = within_after (after (role_of sort) within) sorts
 
--- after these tokens, a token is this operator, outside brackets
+-- the token after these tokens is this operator, outside brackets
 abbrev pub IsOperator : Operator → List Item → Item → Type 0
 IsOperator operator front mark = operator_at mark.sort (within_after begin (sorts_of front)) ≡ Some operator
 
@@ -31,12 +31,12 @@ pub record Step : Type 0 where
   pub mark : Item
   pub term : Item
 
--- the tokens of steps
+-- the tokens of these steps, in order
 abbrev pub written : List Step → List Item
 written [] = []
 written (step ∷ steps) = step.mark ∷ step.term ∷ written steps
 
--- each of these steps has an operator that follows a term, and a term of one token
+-- in each of these steps, the first token is the step's operator when it follows a term, and the second token is a term
 pub data AreSteps : List Step → Type 0 where
   NoStep : AreSteps []
   OneMore : (step : Step) (steps : List Step) → operator_of false step.mark.sort ≡ Some step.operator

@@ -7,11 +7,11 @@ use Rattle.m11_scan.specs.Cutting.{Lexeme, tokens_from}
 use Rattle.m11_scan.specs.ErrorFlags.{flag_A, flag_I, flag_Q, flag_if}
 use Rattle.m11_scan.specs.Skipped.{skipped_between}
 
--- I for a skipped character between two columns
+-- I if a line has a skipped character from `start` up to but not including `end`, otherwise no flags
 abbrev pub skip_flags : Bytes → ℕ → ℕ → ℕ
 skip_flags line start end = flag_if (skipped_between line start end) flag_I
 
--- I for a skipped character from a column on
+-- I if a line has a skipped character at or after a column, otherwise no flags
 abbrev pub rest_flags : Bytes → ℕ → ℕ
 rest_flags line column = skip_flags line column (length line)
 
@@ -20,7 +20,7 @@ abbrev pub has_token : List Lexeme → Bool
 has_token [] = false
 has_token (token ∷ tokens) = true
 
--- Q for a token from a column on, and I for a skipped character from that column on
+-- Q if a line has a token at or after a column, and I if it has a skipped character there
 abbrev pub left_over : Bytes → ℕ → ℕ
 left_over line column =
     bit_or (flag_if (has_token (tokens_from line column)) flag_Q) (rest_flags line column)
@@ -29,11 +29,12 @@ left_over line column =
 abbrev pub bad_flags : Bytes → ℕ → ℕ
 bad_flags line column = bit_or flag_A (rest_flags line column)
 
--- the column where the first of these tokens begins, or the end of the line
+-- the column where the first of these tokens begins, or the end of the line if there are no tokens
 abbrev pub start_of : Bytes → List Lexeme → ℕ
 start_of line [] = length line
 start_of line (token ∷ tokens) = token.start
 
--- I for a skipped character before the next token from a column on
+-- I if a line has a skipped character between a column and the next token, or, if no token follows, between the column and the
+-- end of the line; otherwise no flags
 abbrev pub flags_before : Bytes → ℕ → ℕ
 flags_before line column = skip_flags line column (start_of line (tokens_from line column))

@@ -26,7 +26,7 @@ number_of Divide left right = quotient left right
 number_of And left right = bit_and left right
 number_of Or left right = bit_or left right
 
--- A for a division by 0
+-- A if the operator divides by 0, otherwise no flags
 abbrev pub division_flags : Operator → ℕ → ℕ
 division_flags Divide right = if right == 0 then flag_A else 0
 division_flags operator right = 0
@@ -49,12 +49,13 @@ combined operator left right =
     (bit_or (bit_or left.flags right.flags) (division_flags operator right.number))
     (is_register left.kind || is_register right.kind)
 
--- the flag of a kind where only an absolute number is allowed: R for a register, A for any other, none for an absolute number
+-- the flag of a value of this kind where only an absolute number is allowed: none for an absolute number, R for a register, A for
+-- any other kind
 abbrev pub absence : Kind → ℕ
 absence kind = if is_absolute kind then 0 else refusal (is_register kind)
 
--- an absolute value with this number and the flags of the old value; if that isn't absolute, R is added for a register, and A for
--- another kind
+-- an absolute value with this number and the flags of the old value; if the old value isn't absolute, R is added for a register,
+-- and A for another kind
 abbrev pub replaced : Quantity → ℕ → Quantity
 replaced value number = absolute number (bit_or value.flags (absence value.kind))
 

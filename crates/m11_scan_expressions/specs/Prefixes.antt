@@ -15,7 +15,7 @@ use Rattle.m11_scan_expressions.specs.declared.prefixes.Prefix.TheVariants.{Plus
 use Rattle.m11_scan_expressions.specs.Operations.{as_register, complemented, negated}
 use Rattle.m11_scan_expressions.specs.Quantities.{Quantity, with_flags}
 
--- the prefix that a token of this sort is, if it is one
+-- the prefix whose token has this sort, if there is one
 abbrev pub prefix_of : Sort → Option Prefix
 prefix_of sorts.Plus = Some Plus
 prefix_of sorts.Minus = Some Minus
@@ -32,13 +32,15 @@ abbrev pub radix_under : Prefix → Radix → Radix
 radix_under (InRadix other) radix = other
 radix_under prefix radix = radix
 
--- the number of open brackets after a token with this role; none if it closes the outermost one
+-- the number of brackets that are open inside the outermost one, after a token with this role; none if the token closes the
+-- outermost one
 abbrev pub depth_after : Role → ℕ → Option ℕ
 depth_after Opens depth = Some (depth + 1)
 depth_after Closes depth = if depth == 0 then None else Some (depth - 1)
 depth_after role depth = Some depth
 
--- the number of tokens before the `>` that closes the outermost open bracket, or of all tokens if none does
+-- the number of tokens before the `>` that closes the outermost open bracket, or of all tokens if there is no such `>`; `depth`
+-- more brackets are open inside it
 abbrev pub bracket_length : ℕ → List Sort → ℕ
 bracket_length depth [] = 0
 bracket_length depth (sort ∷ sorts) = option_map_or (λ next. suc (bracket_length next sorts)) (depth_after (role_of sort) depth) 0

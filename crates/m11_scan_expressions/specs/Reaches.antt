@@ -10,7 +10,7 @@ use Rattle.m11_scan_expressions.specs.declared.operators.Operator.{Operator}
 use Rattle.m11_scan_expressions.specs.Prefixes.{bracket_length}
 use Rattle.m11_scan_expressions.specs.Splits.{after, operator_of}
 
--- the state outside brackets; `is_due` says whether a term must come next
+-- the state outside brackets; `is_due` says whether a term is due next
 abbrev pub outside : Bool → Within
 outside is_due = record { depth = 0; is_due = is_due }
 
@@ -31,7 +31,7 @@ ends_before in_bracket is_due roles.Sign = not is_due
 ends_before in_bracket is_due roles.Closes = in_bracket
 ends_before in_bracket is_due role = false
 
--- whether a term ends before a token with this role; inside its own brackets it doesn't
+-- whether a term ends before a token with this role; a term doesn't end inside its own brackets
 abbrev pub ends_term : Bool → Within → Role → Bool
 ends_term in_bracket within role = within.depth == 0 && ends_before in_bracket within.is_due role
 

@@ -14,8 +14,8 @@ pub record Split : Type 0 where
   pub index : ℕ
   pub operator : Operator
 
--- the operator that a token of this sort is, if it is one: where a term is due, `+` and `-` are signs, and each other operator
--- follows a missing term
+-- the operator whose token has this sort; none if there is no such operator. Where a term is due, `+` and `-` are signs and not
+-- operators; before any other operator the term is then missing
 abbrev pub operator_of : Bool → Sort → Option Operator
 operator_of is_due sorts.Plus = if is_due then None else Some Add
 operator_of is_due sorts.Minus = if is_due then None else Some Subtract
@@ -25,7 +25,7 @@ operator_of is_due sorts.And = Some And
 operator_of is_due sorts.Or = Some Or
 operator_of is_due sort = None
 
--- the operator that a token of this sort is in this state, if it is one; inside brackets it is none
+-- the operator whose token has this sort, in this state of the expression; none if there is no such operator, or inside brackets
 abbrev pub operator_at : Sort → Within → Option Operator
 operator_at sort within = if within.depth == 0 then operator_of within.is_due sort else None
 
@@ -40,7 +40,8 @@ after roles.Opens within = record { depth = within.depth + 1; is_due = true }
 after roles.Closes within = record { depth = within.depth - 1; is_due = false }
 after roles.Foreign within = within
 
--- the last operator of some tokens, given the operator that the first of them is, if any, and the last operator of the others
+-- the last operator of a list of tokens: that of the tokens after the first one, if they have one; otherwise the operator of the first
+-- token, if it has one
 abbrev pub later : Option Operator → Option Split → Option Split
 later here (Some split) = Some (record { index = suc split.index; operator = split.operator })
 later (Some operator) None = Some (record { index = 0; operator = operator })

@@ -20,8 +20,8 @@ abbrev pub AgreeOn : List Symbol → (Symbol → Quantity) → (Symbol → Quant
 AgreeOn [] first second = Unit {0}
 AgreeOn (symbol ∷ symbols) first second = (first symbol ≡ second symbol) × AgreeOn symbols first second
 
--- texts of tokens of this sort that differ at most in the case of letters, and only where case has no meaning: in names, after
--- `^R`, and in `^B`, `^O`, `^D` and `^C`
+-- two texts of tokens of this sort differ at most in the case of letters, and only where case has no meaning: in names, after `^R`,
+-- and in `^B`, `^O`, `^D` and `^C`
 abbrev pub IsSameText : Sort → Bytes → Bytes → Type 0
 IsSameText Name first second = map folded first ≡ map folded second
 IsSameText Packed first second = map folded first ≡ map folded second
@@ -31,7 +31,7 @@ IsSameText DecimalRadix first second = map folded first ≡ map folded second
 IsSameText Complement first second = map folded first ≡ map folded second
 IsSameText sort first second = first ≡ second
 
--- tokens of the same sorts whose texts differ at most in the case of letters, where it has no meaning
+-- two lists of tokens have the same sorts, and texts that differ at most in the case of letters where case has no meaning
 pub data AreSame : List Lexeme → List Lexeme → Type 0 where
   NoToken : AreSame [] []
   OneMore : (first second : Lexeme) (firsts seconds : List Lexeme) → first.sort ≡ second.sort

@@ -60,17 +60,17 @@ symbol_in sorts.Name text = name_symbol text
 symbol_in sorts.LocalSymbol text = local_symbol (front_of text)
 symbol_in sort text = None
 
--- the value of `'` and a character; a missing term without the character
+-- the value of `'` and a character; that of a missing term if there is no character
 abbrev pub character : Bytes → Quantity
 character (mark ∷ first ∷ rest) = absolute first 0
 character text = missing
 
--- the value of `"` and two characters, the first one in the low byte; a missing term without both characters
+-- the value of `"` and two characters, the first one in the low byte; that of a missing term if there are fewer characters
 abbrev pub two_characters : Bytes → Quantity
 two_characters (mark ∷ first ∷ second ∷ rest) = absolute (first + 256 * second) 0
 two_characters text = missing
 
--- the value of `^R` and the characters after it; a missing term without any
+-- the value of `^R` and the characters after it; that of a missing term if there are no characters
 abbrev pub packed : Bytes → Quantity
 packed (mark ∷ flag ∷ characters) = absolute (packed_word characters) (packed_flags characters)
 packed text = missing

@@ -34,7 +34,7 @@ split_value value radix items (Some split) =
 split_value value radix [] None = missing
 split_value value radix (first ∷ items) None = term_value value radix first items (prefix_of first.sort)
 
--- the value of an expression, given a function for the values of its parts, which are shorter
+-- the value of an expression, from a function that yields the values of its parts, which are shorter
 abbrev pub by_parts : (Radix → List Item → Quantity) → Radix → List Item → Quantity
 by_parts value radix items = split_value value radix items (last_operator begin (sorts_of items))
 

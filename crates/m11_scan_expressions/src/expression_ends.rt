@@ -1,4 +1,4 @@
-//! Whether a line has an expression at a column, where it ends, and whether it is a single token. (MACRO-11 Language Reference
+//! Whether a line has an expression at a column, where it ends, and whether it is a single term. (MACRO-11 Language Reference
 //! Manual, "Expressions".)
 
 ghost use Rattle.std.specs.Prelude.{◌≡◌, ◌∷◌, [], IfSome, MatchOption};
@@ -40,12 +40,12 @@ pub struct ExpressionEnd {
     pub(crate) end: u8,
     // The next token after the expression, if any.
     pub(crate) next: Option<Token>,
-    // The expression's token, if it is a single one.
+    // The expression's token, if the expression is a single term.
     pub(crate) term: Option<Token>,
 }
 
-// The end of the expression at a column. `token` is the next token from the column on; if it can't begin an expression, the end
-// is the column itself.
+// The end of the expression at a column. `token` is the first token at or after the column; if it can't begin an expression, the
+// end is the column itself.
 // speed: a call would pass two tokens through memory.
 #[inline(always)]
 pub(crate) fn expression_end_from(line: &Line, column: u8, token: Token) -> ExpressionEnd
@@ -65,7 +65,7 @@ pub(crate) fn expression_end_from(line: &Line, column: u8, token: Token) -> Expr
     }
 }
 
-// The end of an expression that isn't a single token. Its tokens, if it has any, are cut one after another.
+// The end of an expression that isn't a single term. Its tokens, if it has any, are cut one after another.
 fn long_expression_end(line: &Line, column: u8) -> ExpressionEnd
     ensures end { result.end ≡ expression_end line.now.text column }
     ensures next { MatchOption result.next (tokens_from line.now.text result.end ≡ [])
@@ -87,7 +87,7 @@ pub struct SingleTerm {
     pub(crate) next: Option<Token>,
 }
 
-// The expression at a column, if it is a single token, with the next token after it.
+// The expression at a column, if it is a single term, with the next token after it, if any.
 // speed: the saving and restoring of registers in a call would cost more than the check.
 #[inline(always)]
 pub(crate) fn single_at(line: &Line, column: u8) -> Option<SingleTerm>
@@ -99,7 +99,8 @@ pub(crate) fn single_at(line: &Line, column: u8) -> Option<SingleTerm>
     single_from(line, column, token)
 }
 
-// The expression at a column, if it consists of `term` alone. `term` is the next token from the column on.
+// The expression at a column, with the next token after it, if any. `term` is the first token at or after the column. Returns None
+// unless `term` is a term and the expression consists of it alone.
 // speed: the saving and restoring of registers in a call would cost more than the check.
 #[inline(always)]
 pub(crate) fn single_from(line: &Line, column: u8, term: Token) -> Option<SingleTerm>
@@ -127,7 +128,7 @@ pub(crate) fn is_term(sort: Sort) -> bool
     matches!(role_of(sort), Role::Term)
 }
 
-// Whether the token after a term, if there is one, joins it to another term.
+// Whether the token after a term, if there is one, joins this term to another.
 fn joins(next: Option<Token>) -> bool
     ensures { result ≡ spec.joins_next next }
 {

@@ -30,8 +30,8 @@ pub struct ExpressionNumber {
 }
 
 /// The number of the expression at a column, its flags, and the column after the expression. Only an absolute number is allowed: a
-/// register is flagged R, and any other kind A. Without an expression the number is 0, flagged Q. The symbols in the expression are
-/// added to the remarks; the flags are only returned.
+/// register is flagged R, and a value of another kind A. Without an expression the number is 0, flagged Q. The symbols in the
+/// expression are added to the remarks; the flags are only returned.
 ///
 /// Error: memory for the symbols was refused.
 pub fn number_at<N: Names>(
@@ -50,7 +50,7 @@ pub fn number_at<N: Names>(
     number_by(line, column, single_at(line, column), names, remarks)
 }
 
-/// The number of the expression at a column, as `number_at` returns it. `token` is the next token from the column on.
+/// The number of the expression at a column, as `number_at` returns it. `token` is the first token at or after the column.
 ///
 /// Error: memory for the symbols was refused.
 // speed: a call would pass tokens through memory.
@@ -79,7 +79,8 @@ pub fn number_from<N: Names>(
     )
 }
 
-// The number of the expression at a column, as `number_at` returns it. `single` is the expression's token, if it has only one.
+// The number of the expression at a column, as `number_at` returns it. `single` has the expression's token, if the expression is a
+// single term. Error: memory for the symbols was refused.
 // speed: a call would pass tokens through memory.
 #[inline(always)]
 fn number_by<N: Names>(
@@ -118,8 +119,8 @@ pub(crate) struct Reading {
     pub(crate) end: u8,
 }
 
-// Reads the expression at a column. `single` is the expression's token, if it has only one. The symbols in the expression are
-// added to the remarks. Error: memory may be refused.
+// Reads the expression at a column. `single` has the expression's token, if the expression is a single term. The symbols in the
+// expression are added to the remarks. Error: memory for the symbols was refused.
 // speed: a call would pass tokens through memory.
 #[inline(always)]
 fn read_expression<N: Names>(
@@ -149,7 +150,7 @@ fn read_expression<N: Names>(
 }
 
 // Reads the expression at a column, of any length, and cuts each token once. The symbols in the expression are added to the
-// remarks. Error: memory may be refused.
+// remarks. Error: memory for the symbols was refused.
 // speed: not inlined, since the caller would clear room for the tokens even for an expression of one token.
 #[inline(never)]
 pub(crate) fn read_tokens<N: Names>(
@@ -182,7 +183,7 @@ pub(crate) fn long_value<N: Names>(line: &Line, column: u8, names: &N) -> Value
     expression_value(expression_at(line, column).tokens.as_slice(), line, names)
 }
 
-// Adds the symbols in the expression at a column, of any length, to the remarks. Error: memory may be refused.
+// Adds the symbols in the expression at a column, of any length, to the remarks. Error: memory for the symbols was refused.
 // speed: not inlined, since the caller would clear room for the tokens even for an expression of one token.
 #[inline(never)]
 pub(crate) fn read_all_symbols(

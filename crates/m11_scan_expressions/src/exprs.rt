@@ -1,5 +1,5 @@
-//! Expressions that are stored: each is found once in its line, and later yields its value and its symbols, given the line but no
-//! column. (MACRO-11 Language Reference Manual, "Expressions".)
+//! Stored expressions. Each is found in its line only once. Its value and its symbols are found later, from the line and the stored
+//! expression, without a column. (MACRO-11 Language Reference Manual, "Expressions".)
 
 ghost use Rattle.std.specs.Prelude.{◌≡◌, [], ◌∷◌, IfOk, MatchOption};
 ghost use Rattle.m11_scan.specs.Cutting.{tokens_from};
@@ -29,7 +29,7 @@ pub enum Expr {
     Empty,
     /// A single token, which is a term.
     Term(Token),
-    /// Any other expression, with the column where it begins.
+    /// The expression at this column of the line, whatever its tokens. It may be empty.
     Tokens(u8),
 }
 
@@ -44,7 +44,8 @@ pub struct ExprAt {
     pub next: Option<Token>,
 }
 
-/// The expression at a column of a line. It is empty, and ends at that column, if the next token can't begin one.
+/// The expression at a column of a line. It is empty, and ends at that column, if there is no next token or the next token can't
+/// begin an expression.
 // speed: a call would pass two tokens through memory.
 #[inline(always)]
 #[tactic(auto, using(crate::proofs::Empties::none_before, crate::proofs::Empties::none_at_end))]
@@ -66,7 +67,7 @@ pub fn expr_at(line: &Line, column: u8) -> ExprAt
     }
 }
 
-// The empty expression at a column. `next` is the next token from the column on, if any.
+// The empty expression at a column. `next` is the first token at or after the column, if any.
 // speed: a call would pass a token through memory.
 #[inline(always)]
 #[tactic(auto, using(crate::proofs::Empties::ends_there))]
@@ -86,8 +87,8 @@ fn nothing_at(line: &Line, column: u8, next: Option<Token>) -> ExprAt
     }
 }
 
-/// The expression at a column. `token` is the next token from the column on. If it can't begin an expression, the expression is
-/// empty and ends at that column.
+/// The expression at a column. `token` is the first token at or after the column. If this token can't begin an expression, the expression
+/// is empty and ends at the column.
 // speed: a call would pass two tokens through memory.
 #[inline(always)]
 #[tactic(auto, using(crate::proofs::Empties::one_term))]
@@ -143,7 +144,7 @@ impl Expr {
         }
     }
 
-    /// Adds the symbols in the expression to the remarks, in order. Error: memory may be refused.
+    /// Adds the symbols in the expression to the remarks, in order. Error: memory for the symbols was refused.
     pub fn read_symbols(self, line: &Line, remarks: &mut Remarks) -> Result<(), AllocError>
         ensures { IfOk result
             (λ _. remarks.new ≡ with_symbols remarks.old (spec.symbols (expression_of line.now.text self))) }
@@ -155,8 +156,8 @@ impl Expr {
         }
     }
 
-    /// The value of the expression, as `value` returns it. The symbols in the expression are added to the remarks, as by `read_symbols`.
-    /// Error: memory may be refused.
+    /// The value of the expression, as `value` returns it. The symbols in the expression are added to the remarks, as by
+    /// `read_symbols`. Error: memory for the symbols was refused.
     // speed: each token of a long expression is cut once for both.
     pub fn read_value<N: Names>(
         self,

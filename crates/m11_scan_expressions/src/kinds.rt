@@ -31,8 +31,8 @@ impl Kind {
         matches!(&self, Kind::Register)
     }
 
-    /// The flag of this kind where only an absolute number is allowed: R for a register, A for any other, none for an absolute
-    /// number.
+    /// The flag of a value of this kind where only an absolute number is allowed: none for an absolute number, R for a register,
+    /// A for any other kind.
     pub fn absence(self) -> ErrorFlags
         ensures { bits_of result ≡ absence self }
     {
@@ -58,7 +58,7 @@ pub(crate) fn kind_of(operator: Operator, left: Kind, right: Kind) -> Option<Kin
     }
 }
 
-// The kind of the difference of two locations: absolute if both are in the same section, otherwise none.
+// The kind of the difference of two numbers relative to the sections with these names: absolute if the names are the same, otherwise none.
 fn apart(one: Name, other: Name) -> Option<Kind>
     ensures { result ≡ (if is_same_name one other then Some Kind.Absolute else None) }
 {

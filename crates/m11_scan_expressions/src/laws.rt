@@ -19,8 +19,8 @@ ghost use Rattle.m11_scan_expressions.specs.Symbols.{AgreeOn, AreSame, symbols_o
 ghost use Rattle.m11_scan_expressions.specs.Terms.{Item, atom_value, item};
 ghost use Rattle.m11_scan_expressions.specs.Values.{items_of, sorts_of, value_of};
 
-/// If an operator outside brackets is followed by a single term, the value is the result of the operator applied to the value of the
-/// tokens before it and the value of this term.
+/// If an operator outside brackets is followed by a single term, which may be missing, the value of the whole expression is that of the
+/// operator applied to the value of the tokens before it and the value of this term.
 #[tactic(auto, using(crate::proofs::Folds::joined_value))]
 pub fn an_operator_joins_its_sides()
     ensures { (radix : Radix) (front back : List Item) (mark : Item) (operator : Operator)
@@ -55,7 +55,7 @@ pub fn terms_are_made_of_terms()
 {}
 
 /// A prefix applies to the value of the whole term after it: `+` leaves it unchanged, `-` negates it, `^C` complements it, and
-/// `%` makes it a register. `^B`, `^O` and `^D` evaluate it in their radix, even inside brackets.
+/// `%` makes it a register. After `^B`, `^O` or `^D` the term is evaluated in that radix, even inside brackets.
 pub fn prefixes_apply_to_the_term_after_them()
     ensures plus { (radix : Radix) (mark : Item) (term : List Item) → mark.sort ≡ Plus → IsTerm term
         → value_of radix (mark ∷ term) ≡ value_of radix term }

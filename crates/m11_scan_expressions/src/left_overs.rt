@@ -7,7 +7,8 @@ ghost use Rattle.m11_scan_expressions.specs.LeftOvers as spec;
 
 use m11_scan::{ErrorFlags, Line, next_token, skipped_between};
 
-/// The flags of the rest of a line from a column on, where nothing more is allowed: Q for a token, I for a skipped character.
+/// The flags of the rest of a line, at or after a column, where nothing more is allowed: Q if it has a token, I if it has a skipped
+/// character.
 pub fn left_over(line: &Line, column: u8) -> ErrorFlags
     ensures { bits_of result ≡ spec.left_over line.now.text column }
 {
@@ -16,7 +17,7 @@ pub fn left_over(line: &Line, column: u8) -> ErrorFlags
         .with(rest_flags(line, column))
 }
 
-/// Whether a line has a token from a column on.
+/// Whether a line has a token at or after a column.
 pub fn has_token(line: &Line, column: u8) -> bool
     ensures { result ≡ spec.has_token (tokens_from line.now.text column) }
 {
@@ -26,7 +27,7 @@ pub fn has_token(line: &Line, column: u8) -> bool
     }
 }
 
-/// I for a skipped character in the rest of a line from a column on.
+/// I if a line has a skipped character at or after a column, otherwise no flags.
 pub fn rest_flags(line: &Line, column: u8) -> ErrorFlags
     ensures { bits_of result ≡ spec.rest_flags line.now.text column }
 {
@@ -41,7 +42,8 @@ pub fn bad_flags(line: &Line, column: u8) -> ErrorFlags
     ErrorFlags::A.with(rest_flags(line, column))
 }
 
-/// I for a skipped character before the next token from a column on, or before the end of a line without one.
+/// I if a line has a skipped character between a column and the next token, or, if no token follows, between the column and the end
+/// of the line; otherwise no flags.
 pub fn flags_before(line: &Line, column: u8) -> ErrorFlags
     ensures { bits_of result ≡ spec.flags_before line.now.text column }
 {
@@ -51,7 +53,8 @@ pub fn flags_before(line: &Line, column: u8) -> ErrorFlags
     }
 }
 
-/// I for a skipped character between two columns, if both are within the line and in this order.
+/// I if a line has a skipped character from `start` up to but not including `end`, otherwise no flags. There are also no flags if
+/// `end` is before `start` or past the line's end.
 pub fn skip_flags(line: &Line, start: u8, end: u8) -> ErrorFlags
     ensures { bits_of result ≡ spec.skip_flags line.now.text start end }
 {

@@ -1,6 +1,6 @@
 //! The expressions of a line: where the expression at a column ends, its value, the symbols in it, and the flags of what is left
-//! over after it. The caller supplies the values of symbols. Only remarks allocate memory. (MACRO-11 Language Reference Manual,
-//! "Terms", "Expressions", "Symbols" and "Diagnostic error message summary".)
+//! over after it. The caller supplies the values of symbols. Memory is allocated only for the symbols in remarks. (MACRO-11 Language
+//! Reference Manual, "Terms", "Expressions", "Symbols" and "Diagnostic error message summary".)
 #![tactic(auto)]
 
 // Values, and what they are relative to.
@@ -42,7 +42,7 @@ mod expressions_at;
 pub use expression_ends::{begins_expression, has_expression};
 pub use expressions_at::{ExpressionNumber, number_at, number_from};
 
-// Stored expressions: each later yields its value and its symbols, given its line.
+// Stored expressions, whose values and symbols are found later, from their lines.
 mod exprs;
 
 pub use exprs::{Expr, ExprAt, expr_at, expr_from, expr_starting};

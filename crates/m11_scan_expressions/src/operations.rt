@@ -26,7 +26,7 @@ pub(crate) fn combined(operator: Operator, left: Value, right: Value) -> Value
     )
 }
 
-// The number that an operator yields from two numbers, modulo 65536.
+// The number that an operator yields from two words, modulo 65536.
 fn number_of(operator: Operator, left: u16, right: u16) -> u16
     ensures { result ≡ number_of operator left right }
 {
@@ -52,7 +52,7 @@ fn quotient(left: u16, right: u16) -> u16
     }
 }
 
-// A for a division by 0.
+// A if the operator divides by 0, otherwise no flags.
 fn division_flags(operator: Operator, divisor: u16) -> ErrorFlags
     ensures { bits_of result ≡ division_flags operator divisor }
 {
@@ -88,23 +88,24 @@ fn limited(value: Value) -> Value
     }
 }
 
-// The negated number, as an absolute value. It is flagged R for a register, or A for another kind that isn't absolute.
+// The value of `-` before a term with this value: absolute, with the number negated modulo 65536. R is added to the flags for a register,
+// and A for another kind that isn't absolute.
 pub(crate) fn negated(value: Value) -> Value
     ensures { quantity result ≡ negated (quantity value) }
 {
     replaced(value, 0u16.wrapping_sub(value.number))
 }
 
-// The number with every bit inverted, as an absolute value. It is flagged R for a register, or A for another kind that isn't
-// absolute.
+// The value of `^C` before a term with this value: absolute, with every bit of the number inverted. R is added to the flags for a register,
+// and A for another kind that isn't absolute.
 pub(crate) fn complemented(value: Value) -> Value
     ensures { quantity result ≡ complemented (quantity value) }
 {
     replaced(value, 0o177777 - value.number)
 }
 
-// An absolute value with this number and the flags of the old value. If that isn't absolute, R is added for a register, and A for
-// another kind.
+// An absolute value with this number and the flags of the old value. If the old value isn't absolute, R is added for a register,
+// and A for another kind.
 fn replaced(value: Value, number: u16) -> Value
     ensures { quantity result ≡ replaced (quantity value) number }
 {

@@ -19,7 +19,7 @@ pub enum Prefix {
     Complement,
     // `%`
     Register,
-    // `^B`, `^O`, `^D`
+    // `^B`, `^O` or `^D`
     InRadix(Radix),
     // `<`
     Bracket,

@@ -9,7 +9,7 @@ ghost use Rattle.m11_scan_expressions.specs.Splits.{after, operator_of};
 use crate::operators::Operator;
 use m11_scan::{Role, Sort, Token, Within, role_of};
 
-// The number of these tokens up to the end of a term. `is_due` says whether they must begin with a term; otherwise one was read
+// The number of these tokens up to the end of a term. `is_due` says whether a term is due at their beginning; otherwise a term was read
 // before them. A `>` that closes no `<` among them ends the term if `in_bracket`.
 // speed: inline, since usually the first token ends the term.
 #[inline(always)]
@@ -32,8 +32,8 @@ pub(crate) fn term_length(tokens: &[Token], is_due: bool, in_bracket: bool) -> u
     count
 }
 
-// The number of tokens after a `<` up to the end of its term: the first `inside` of them, the `>`, and any others; all of them if
-// the `>` is missing.
+// The number of tokens after a `<` up to the end of the term that the `<` begins: the `inside` tokens before the `>`, the `>` itself, and
+// any further tokens of the term. If the `>` is missing, the number of all tokens.
 // speed: inline, since usually the token after the `>` ends the term.
 #[inline(always)]
 pub(crate) fn bracketed_length(tokens: &[Token], inside: usize, in_bracket: bool) -> usize
@@ -48,7 +48,7 @@ pub(crate) fn bracketed_length(tokens: &[Token], inside: usize, in_bracket: bool
     }
 }
 
-// Whether a term ends before a token with this role. Inside its own brackets it doesn't.
+// Whether a term ends before a token with this role. A term doesn't end inside its own brackets.
 fn ends_term(in_bracket: bool, within: Within, role: Role) -> bool
     ensures { result ≡ ends_term in_bracket within role }
 {
@@ -93,7 +93,7 @@ pub(crate) fn operator_after(tokens: &[Token]) -> Option<Operator>
     }
 }
 
-// The operator that a token of this sort is after a term, if it is one.
+// The operator whose token, after a term, has this sort; None if there is no such operator.
 fn operator_of(sort: Sort) -> Option<Operator>
     ensures { result ≡ operator_of false sort }
 {

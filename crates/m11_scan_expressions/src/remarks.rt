@@ -12,7 +12,7 @@ use m11_scan::{ErrorFlags, Line, Token};
 use std::alloc::{AllocError, Global};
 use std::marker::Model;
 
-/// The flags of arguments, and the symbols in them, in order. Each call that reads arguments adds its own.
+/// The flags of arguments, and the symbols in them, in order. Each call that reads arguments adds their flags and symbols.
 #[derive(Drop)]
 pub struct Remarks {
     flags: ErrorFlags,

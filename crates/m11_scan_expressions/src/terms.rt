@@ -12,8 +12,7 @@ use crate::values::Value;
 use m11_base::Name;
 use m11_scan::{ErrorFlags, Line, Number, Radix, Sort, Token, read_name, read_number, read_packed};
 
-// The value of a token as a term. A token that isn't a term counts as a missing one, and a local symbol outside 1 to 65535 is 0
-// with A.
+// The value of a token as a term. A token that isn't a term counts as a missing one, and a local symbol outside 1 to 65535 is 0, flagged A.
 pub(crate) fn atom<N: Names>(token: &Token, radix: Radix, line: &Line, names: &N) -> Value
     ensures { quantity result
         ≡ atom_value radix (item (N.stands_for names.now) (lexeme line.now.text token.now)).atom }
@@ -137,7 +136,7 @@ fn two_characters(text: &[u8]) -> Value
     }
 }
 
-// The word of the characters after `^R`; without any, a missing term.
+// The value of `^R` and the characters after it; that of a missing term if there are no characters.
 fn packed(text: &[u8]) -> Value
     ensures { quantity result ≡ spec.packed text.now }
 {

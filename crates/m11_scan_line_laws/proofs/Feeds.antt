@@ -37,7 +37,7 @@ module _ {F : Type 0} (text : F → Option Text) (faults : F → ℕ) where
   given (feed ∷ feeds) [] h = absurd h
   given (feed ∷ feeds) (source ∷ sources) h = (h.0, given feeds sources h.1)
 
-  -- the feed at the position of the sources failed
+  -- the feed after those that were read to their ends failed, if its number of failures rose and no other number changed
   one_failed : (old new : List F) (texts : List (Option Text)) (left : Option Text) (later : List (Option Text))
       (count : ℕ) (sources : List (List ℕ)) (beginning : List ℕ) → GiveParts (map text old) texts sources beginning
       → texts ≡ left ∷ later → Rises (get_or (map faults old) (length sources) 0) count
@@ -61,7 +61,7 @@ module _ {F : Type 0} (text : F → Option Text) (faults : F → ℕ) where
         (tail_is (faults y) (faults x) (map faults new) (set (map faults old) (length sources) count) e),
   )
 
-  -- how many sources before it were read to their ends
+  -- there are as many texts as sources that were read to their ends, and then the next one and those after it
   parts_length : (texts new : List (Option Text)) (left : Option Text) (later : List (Option Text))
       (sources : List (List ℕ)) (beginning : List ℕ) → GiveParts texts new sources beginning → new ≡ left ∷ later
       → length texts ≡ length sources + (1 + length later)
@@ -126,7 +126,7 @@ module _ {F : Type 0} (text : F → Option Text) (faults : F → ℕ) where
             ap reading_of_input (sym is) ∙ reading_so_far first last lines r refl refl,
           )
 
-      -- a byte comes, and further ones after it
+      -- one more byte was read, and the sources may continue after it
       module _ (now : Position) (r : Reached first now lines) (byte : ℕ)
           (gave : Gave now.texts last.texts (Some byte ∷ [])) where
         pub whole_more : Whole (map text old) (r.given ++ Some byte ∷ [])
@@ -164,7 +164,7 @@ module _ {F : Type 0} (text : F → Option Text) (faults : F → ℕ) where
                 ∙ stops_at_lines first now lines r refl refl came.0 bytes_left whole.rest came.3 came.4 came.5,
           )
 
-      -- the feed that failed is at the position of the reader
+      -- if a call returns that a feed failed, the lines so far are the reading of the bytes before the failure
       pub failed : ReadsNext middle last (Err Read)
           → FailReading text faults old new (record { lines = lines; fault = None })
       failed read =

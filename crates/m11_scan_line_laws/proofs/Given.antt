@@ -6,7 +6,8 @@ use Rattle.m11_scan.specs.Lines.{input_of}
 use Rattle.m11_scan.specs.Reader.{Gave}
 use Rattle.m11_scan.proofs.Cuts.{bytes_of}
 
--- these sources are the first texts up to their ends, and then the beginning of the next one, if there is one
+-- these sources are all bytes of the first texts, and this beginning was read from the next text; without a next text the beginning
+-- is empty
 abbrev pub GiveParts : List (Option Text) → List (Option Text) → List (List ℕ) → List ℕ → Type 0
 GiveParts [] new [] beginning = (new ≡ []) × (beginning ≡ [])
 GiveParts [] new (source ∷ sources) beginning = ⊥
@@ -37,7 +38,7 @@ ends_empty : (text text' : Option Text) → GivesEnd text text' → HasBytes tex
 ends_empty None text' g = tt
 ends_empty (Some t) text' g = g.0.0
 
--- the sources of an input, and the bytes of one that hasn't ended
+-- an input: the sources that were read to their ends, and the bytes read from the next one
 pub record Parts (texts new : List (Option Text)) (input : List (Option ℕ)) : Type 0 where
   pub sources : List (List ℕ)
   pub beginning : List ℕ
@@ -78,7 +79,7 @@ parts_of (text ∷ texts) new (None ∷ input) g =
       give = (ends_empty text g.0 g.1, later.give);
     }
 
--- ---- complete sources from there on
+-- ---- complete sources that continue an input
 
 abbrev pub GiveSources : List (Option Text) → List (List ℕ) → Type 0
 GiveSources texts sources = GiveAll (λ text. text) texts sources
@@ -97,7 +98,7 @@ whole_source : (text : Option Text) (beginning : List ℕ) → BeginsWith text b
 whole_source None beginning h = ([], tt)
 whole_source (Some t) beginning h = h
 
--- sources with this input at their beginning, whatever follows
+-- complete sources whose input begins with this one, whatever follows
 pub record Whole (texts : List (Option Text)) (input : List (Option ℕ)) : Type 0 where
   pub sources : List (List ℕ)
   pub rest : List (Option ℕ)

@@ -1,4 +1,4 @@
--- How far feeds were read when a reading of them stops.
+-- How far feeds have been read when a reading of them stops.
 use Rattle.std.proofs.Common.{◌≡◌, ℕ, ◌≤◌, zero, suc, List, [], ◌∷◌, ◌++◌, length, map, drop, get_or, Option, Some, None, Ok, Err, refl, sym, ap, subst, ◌∙◌, arith, append_assoc}
 use Rattle.std.proofs.lemmas.List.{length-map, length-drop, length-set, append-nil, map-append}
 use Rattle.m11_base.specs.Feed.{Text, GivesBytes, GivesFailure}
@@ -86,7 +86,7 @@ failed_gives_nothing : (t t' : Option Text) (count : ℕ) → GivesFailure t t' 
 failed_gives_nothing None t' count g = tt
 failed_gives_nothing (Some t) t' count g = (t.bytes, refl, g.1)
 
--- the feed from which a byte was read
+-- one byte was read from the first of these texts, and nothing from the others
 record GaveByte (texts new : Texts) (byte : ℕ) : Type 0 where
   pub text : Option Text
   pub text' : Option Text

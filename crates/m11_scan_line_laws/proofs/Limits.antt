@@ -12,8 +12,8 @@ use Rattle.m11_scan_line_laws.specs.Readings.{begins_at, fault_at}
 
 -- ---- a piece
 
--- the fault of a piece: the limit on lines is passed, that on bytes is passed before the line begins, or that on bytes is passed in the
--- piece
+-- the fault of a piece, by three conditions: it passes the limit on lines; the byte at which its line begins is past the limit on
+-- bytes; the piece passes the limit on bytes
 abbrev by_limits : Bool → Bool → Bool → Option LineFault
 by_limits lines beginning bytes =
     cond lines (Some (cond beginning TooMuchSource TooManyLines)) (cond bytes (Some TooMuchSource) None)
@@ -81,7 +81,7 @@ module _ (before : List RawLine) (piece : RawLine) where
     | inr le ↦ le
   ]
 
--- nothing between two ends of lines
+-- an empty piece that no line feed ends passes no limit
 pub empty_within : (before : List RawLine) → bytes_in before ≤ most_bytes → fault_at before (raw [] false) ≡ None
 empty_within before h = by_more before (raw [] false) false refl
     ∙ ap (λ c. by_limits false (starts_late before (raw [] false)) c) (le-ltb most_bytes (bytes_in before + 0) (omega arith))

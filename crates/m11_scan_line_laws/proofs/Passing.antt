@@ -88,7 +88,7 @@ module _ (before : List RawLine) (fault : LineFault) where
 
 -- ---- an empty piece changes nothing
 
--- the limits that a piece passes, from sums over the pieces before it
+-- the fault of the limit that a piece passes first, if any, from the numbers of bytes and lines before it
 abbrev fault_with : ℕ → ℕ → RawLine → Option LineFault
 fault_with bytes lines piece =
     if is_line piece && nat_lt most_lines (lines + 1)
@@ -151,7 +151,7 @@ skips before (piece ∷ pieces) more unclosed h =
     (λ none. skips (before ++ piece ∷ []) pieces more unclosed
     (omega (arith, bytes_in-push before piece, no_fault before piece none)))
 
--- ---- a source that ends in a line feed
+-- ---- a source that ends with a line feed
 
 module _ (one other : List ℕ) (rest : List (Option ℕ)) where
   abbrev front : List (Option ℕ)

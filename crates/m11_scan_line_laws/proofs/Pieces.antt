@@ -15,7 +15,7 @@ abbrev pub following : List ℕ → Cut → Cut
 following [] c = c
 following (byte ∷ bytes) c = in_front byte (following bytes c).lines (following bytes c).unclosed
 
--- bytes that aren't closed go on with those that follow
+-- two cuts joined: the unclosed bytes of the first continue with the bytes of the second
 abbrev pub joined : Cut → Cut → Cut
 joined c d = record {
   lines = c.lines ++ (following c.unclosed d).lines;

@@ -44,7 +44,7 @@ record ReadsAs (bytes count : ℕ) (lines : List SourceLine) (input : List (Opti
   count_is : lines_in pieces ≡ count
   lines_are : lines_of pieces ≡ lines
 
--- the end of a source, with or without a line before it
+-- the bytes after the last line feed of a source are these lines: one, or none if there are no bytes
 record EndsIn (last : List ℕ) (lines : List (List ℕ)) : Type 0 where
   count_is : lines_in (raw last false ∷ []) ≡ length lines
   lines_are : lines_of (raw last false ∷ []) ≡ map line_of lines

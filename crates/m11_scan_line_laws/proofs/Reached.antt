@@ -1,4 +1,4 @@
--- What calls have read so far, and the reading of it.
+-- The input that calls have read so far, and its reading.
 use Rattle.std.proofs.Common.{◌≡◌, ℕ, ◌+◌, ◌<◌, ◌≤◌, true, false, cond, List, [], ◌∷◌, ◌++◌, length, map, Option, Some, None, refl, sym, ap, ◌∙◌, arith, append_assoc, inl, inr}
 use Rattle.std.specs.Prelude.{◌==◌}
 use Rattle.std.proofs.lemmas.List.{append-nil}
@@ -114,7 +114,7 @@ module _ (first now : Position) (lines : List SourceLine) (r : Reached first now
       ∙ passed [] r.pieces (following r.unclosed (cut rest)).lines (following r.unclosed (cut rest)).unclosed
       (omega (arith, r.bytes_left, bytes)) (omega (arith, r.lines_left, count))
 
-  -- whatever follows it
+  -- whatever follows this input, the reading begins with these lines
   pub lines_go_on : (rest : List (Option ℕ))
       → (more : List SourceLine) × ((reading_of_input (r.given ++ rest)).lines ≡ lines ++ more)
   lines_go_on rest =
@@ -125,7 +125,7 @@ module _ (first now : Position) (lines : List SourceLine) (r : Reached first now
             ∙ ap (λ (l : List SourceLine). l ++ e.0) r.are,
       )
 
-  -- if nothing follows it
+  -- if nothing follows this input, its reading has exactly these lines, and no fault
   pub reading_so_far : reading_of_input r.given ≡ record { lines = lines; fault = None }
   reading_so_far =
       ap reading_of_input (sym (append-nil r.given)) ∙ from_here []
@@ -138,7 +138,7 @@ module _ (first now : Position) (lines : List SourceLine) (r : Reached first now
   are_stopped : (fault : LineFault) → stopped r.pieces fault ≡ record { lines = lines; fault = Some fault }
   are_stopped fault = ap (λ (l : List SourceLine). record { lines = l; fault = Some fault }) r.are
 
-  -- if a byte past a limit follows it
+  -- if a byte past a limit follows this input, the reading has exactly these lines, and the fault of the limit
   pub stops_at_bytes : (byte : ℕ) (rest : List (Option ℕ)) → now.bytes_left ≡ 0
       → reading_of_input (r.given ++ Some byte ∷ rest) ≡ record { lines = lines; fault = Some TooMuchSource }
   stops_at_bytes byte rest none =

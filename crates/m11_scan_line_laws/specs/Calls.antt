@@ -1,4 +1,5 @@
--- The reading of sources call by call: the lines after some calls, and the sources that they are from. (This project's own.)
+-- The reading of sources call by call: the lines that calls have returned, and the sources that these lines were read from. (This
+-- project's own.)
 use Rattle.std.specs.Prelude.{◌≡◌, ℕ, ◌+◌, List, [], ◌++◌, map, Option, Some}
 use Rattle.m11_base.specs.Devices.{Bytes}
 use Rattle.m11_base.specs.Feed.{Text, GiveAll, NoneFailed, OneFailed}

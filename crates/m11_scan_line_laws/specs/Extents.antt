@@ -8,8 +8,8 @@ use Rattle.m11_scan.specs.Line.{SourceLine}
 use Rattle.m11_scan.specs.Lines.{RawLine, input_of, cut, is_line}
 use Rattle.m11_scan_line_laws.specs.Readings.{lines_of, reading_of, reading_of_input}
 
--- these sources are all the bytes of the first feeds; the next feed, if there is one, was read as far as this prefix of its bytes,
--- and the others not at all
+-- these sources are all the bytes of the first feeds, in order; of the next feed exactly this prefix was read, and of the feeds
+-- after it nothing. If there is no next feed, the prefix is empty
 abbrev pub GaveTo : {F : Type 0} → (F → Option Text) → List F → List F → List Bytes → Bytes → Type 0
 GaveTo text [] new [] beginning = (new ≡ []) × (beginning ≡ [])
 GaveTo text [] new (source ∷ sources) beginning = ⊥
@@ -19,7 +19,7 @@ GaveTo text (old ∷ olds) (new ∷ news) [] beginning =
 GaveTo text (old ∷ olds) (new ∷ news) (source ∷ sources) beginning =
     HasBytes (text old) source × GaveTo text olds news sources beginning
 
--- the input from the feeds: the sources, each with its end, and then the beginning of the next one
+-- the input from the feeds: the sources, each with its end, and then the beginning of the next source
 abbrev pub came_of : List Bytes → Bytes → List (Option ℕ)
 came_of sources beginning = input_of sources ++ map (λ byte. Some byte) beginning
 
@@ -28,7 +28,8 @@ abbrev pub EndWithLine : List RawLine → Type 0
 EndWithLine pieces = (pieces ≡ [])
     ⊎ ((before : List RawLine) × (last : RawLine) × (pieces ≡ before ++ last ∷ []) × (is_line last ≡ true))
 
--- the input is these lines, the last one up to its line feed or the end of its source, and nothing after it
+-- the lines of the input are these, and the input ends where the last of them does: after its line feed or at the end of its
+-- source. Without lines the input is empty
 pub record ComesTo (came : List (Option ℕ)) (lines : List SourceLine) : Type 0 where
   pub pieces : List RawLine
   pub is_cut : cut came ≡ record { lines = pieces; unclosed = [] }
@@ -49,14 +50,14 @@ pub record GaveAll {F : Type 0} (text : F → Option Text) (old new : List F) (l
   pub each : length sources ≡ length old
   pub is_reading : reading_of sources ≡ record { lines = lines; fault = None }
 
--- the feeds were read to the end of these lines or further, without another whole line
+-- the feeds were read to the end of these lines or further, but not to the end of another line
 pub record GaveTill {F : Type 0} (text : F → Option Text) (old new : List F) (lines : List SourceLine) : Type 0 where
   pub sources : List Bytes
   pub beginning : Bytes
   pub gave : GaveTo text old new sources beginning
   pub is_reading : reading_of_input (came_of sources beginning) ≡ record { lines = lines; fault = None }
 
--- the feeds were read past the end of these lines, up to and including the byte that passes a limit
+-- the feeds were read past the end of these lines, up to and including the byte that passes this limit
 pub record GavePast {F : Type 0} (text : F → Option Text) (old new : List F) (lines : List SourceLine) (limit : LineFault) : Type 0 where
   pub sources : List Bytes
   pub beginning : Bytes

@@ -10,7 +10,7 @@ pub data HasLines : Bytes → List Bytes → Type 0 where
   LastOpen : (lines : List Bytes) (last : Bytes) → ArePlainTexts lines → IsPlainText last → last ≢ []
       → HasLines (written lines ++ last) (lines ++ last ∷ [])
 
--- sources have these lines together
+-- sources have these lines, in order: those of the first source, then those of the second, and so on
 pub data HaveLines : List Bytes → List Bytes → Type 0 where
   NoSource : HaveLines [] []
   OneMore : (source : Bytes) (sources lines more : List Bytes) → HasLines source lines → HaveLines sources more

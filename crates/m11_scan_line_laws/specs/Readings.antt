@@ -1,6 +1,6 @@
 -- The reading of whole sources: all lines in order, and the fault that stops it before the end of the last source. (MACRO-11 Language
--- Reference Manual, "Source program format". The two limits, that each is passed at a byte, and that nothing from that byte on counts,
--- are this project's own.)
+-- Reference Manual, "Source program format". The two limits, that each is passed at a single byte, and that this byte and those after it
+-- are ignored, are this project's own.)
 use Rattle.std.specs.Prelude.{ℕ, ◌+◌, ◌==◌, ◌&&◌, nat_lt, false, if◌then◌else◌, List, [], ◌∷◌, ◌++◌, map, filter, Option, Some, None}
 use Rattle.m11_base.specs.Devices.{Bytes}
 use Rattle.m11_scan.specs.declared.fault.LineFault.{LineFault}
@@ -8,7 +8,7 @@ use Rattle.m11_scan.specs.declared.fault.LineFault.TheVariants.{TooMuchSource, T
 use Rattle.m11_scan.specs.Line.{SourceLine, line_of}
 use Rattle.m11_scan.specs.Lines.{RawLine, input_of, cut, is_line, line_text, size_of, bytes_in, lines_in, most_bytes, most_lines}
 
--- the lines up to the end of the last source; or those before the byte that passes a limit, and the fault of that limit
+-- the lines up to the end of the last source; or those that end before the byte that passes a limit, and the fault of that limit
 pub record Reading : Type 0 where
   pub lines : List SourceLine
   pub fault : Option LineFault
@@ -34,7 +34,7 @@ abbrev pub unless_fault : Option LineFault → List RawLine → Reading → Read
 unless_fault None before rest = rest
 unless_fault (Some fault) before rest = record { lines = lines_of before; fault = Some fault }
 
--- the reading of pieces, and of bytes that aren't closed, after pieces that pass no limit
+-- the reading of pieces of sources: those in `before`, which pass no limit, then these, then unclosed bytes
 abbrev pub reading_from : List RawLine → List RawLine → Bytes → Reading
 reading_from before [] unclosed = record {
   lines = lines_of before;

@@ -1,5 +1,6 @@
-//! The reading of whole sources: all lines in order, and the fault that stops it before their end. Its laws lead from the lines that
-//! `LineReader::next` returns, call by call, to that reading. (MACRO-11 Language Reference Manual, "Source program format".)
+//! The reading of whole sources: their lines in order, and the fault, if any, that stops the reading before the end of the last
+//! source. The laws say how the lines that `LineReader::next` returns, call by call, make up this reading. (MACRO-11 Language Reference
+//! Manual, "Source program format".)
 #![tactic(auto)]
 
 mod laws;

@@ -21,7 +21,7 @@ use Rattle.m11_scan_statements.specs.Bodies.{assignment_to, body_in, operation, 
 use Rattle.m11_scan_statements.specs.Labels.{end_of, is_counter, kind_of, label_of, labels_at, labels_end, labels_in, numbered}
 use Rattle.m11_scan_statements.specs.Statements.{body_of, has_outside, label_flags}
 
--- labels
+-- a line in upper case has the same labels as the line itself
 counter-folded : (text : List ℕ) → is_counter (map folded text) ≡ is_counter text
 counter-folded [] = refl
 counter-folded (byte ∷ []) = mark-folded byte 46 (lit< tt)
@@ -41,7 +41,7 @@ kind-folded LocalSymbol Colon text = ap Some (numbered-folded text)
 kind-folded LocalSymbol TwoColons text = ap Some (numbered-folded text)
 kind-folded _ _ text = refl
 
--- the label of this kind, and the labels before others
+-- a label of this kind, if there is one; and labels that begin with this one, or none without it
 abbrev labelled : Lexeme → ℕ → Option LabelKind → Option Label
 labelled name end found =
     option_map (λ kind. record { kind = kind; name = record { start = name.start; end = name.end }; end = end }) found
@@ -71,7 +71,7 @@ labels_in-folded (name ∷ (colon ∷ tokens)) =
 labels_at-folded : (line : List ℕ) → labels_at (map folded line) ≡ labels_at line
 labels_at-folded line = ap labels_in (tokens_from-folded line 0) ∙ labels_in-folded (tokens_of line)
 
--- bodies
+-- a line in upper case has the same body as the line itself
 set-folded : (sort sign : Sort) (target : Lexeme) (value : ℕ)
     → set_by sort sign (folded_token target) value ≡ set_by sort sign target value
 unfolding folded_token
@@ -86,7 +86,7 @@ assignment-folded line target [] = refl
 assignment-folded line target (equals ∷ tokens) =
     if_cong (skipped_between-folded line target.end equals.start) refl (set-folded target.sort equals.sort target equals.end)
 
--- whether a token of this sort and text is a name
+-- whether a token of this sort and text is a name other than `.`
 abbrev names : Sort → List ℕ → Bool
 names sort text = elim sort [ Name ↦ not (is_counter text) | _ ↦ false ]
 
@@ -109,7 +109,7 @@ body_of-folded line =
     ∙ ap (body_in (map folded line)) (tokens_from-folded line (labels_end line))
     ∙ body_in-folded line (tokens_from line (labels_end line))
 
--- lines that are equal except for case
+-- lines that differ only in the case of letters have the same labels, bodies and flags
 module _ (a b : List ℕ) (same : map folded a ≡ map folded b) where
   pub same_labels : labels_at a ≡ labels_at b
   same_labels = sym (labels_at-folded a) ∙ ap labels_at same ∙ labels_at-folded b

@@ -17,7 +17,7 @@ use Rattle.m11_scan_statements.specs.Listed.{is_name}
 use Rattle.m11_scan_statements.specs.Order.{BodyLies, LabelsLie}
 use Rattle.m11_scan_statements.specs.Statements.{body_of}
 
--- tokens in order end no earlier than they begin
+-- if tokens at or after a column are in order, the column is within the line
 within : (size column : ℕ) (tokens : List Lexeme) → AreOrdered size column tokens → column ≤ size
 within size column [] o = o
 within size column (token ∷ tokens) o =
@@ -26,7 +26,7 @@ within size column (token ∷ tokens) o =
     let longer = o.1 in
     omega arith
 
--- the label of this kind, and the labels before others
+-- a label of this kind, if there is one; and labels that begin with this one, or none without it
 abbrev labelled : Lexeme → ℕ → Option LabelKind → Option Label
 labelled name end found =
     option_map (λ kind. record { kind = kind; name = record { start = name.start; end = name.end }; end = end }) found

@@ -3,7 +3,7 @@ use Rattle.std.proofs.Common.{◌≡◌, List, [], ◌∷◌, ◌++◌, sym, ap,
 use Rattle.std.proofs.lemmas.List.{append_assoc}
 use Rattle.m11_scan_statements.specs.declared.labels.Label.{Label}
 
--- a label joins those before it
+-- if the next label is added to those read so far, these and the remaining ones are still all labels of the line
 pub label_joins : (labels left rest whole more : List Label) (label : Label) → labels ++ left ≡ whole → left ≡ label ∷ rest
     → more ≡ labels ++ label ∷ [] → more ++ rest ≡ whole
 label_joins labels left rest whole more label before next pushed =

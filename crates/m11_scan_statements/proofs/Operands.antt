@@ -21,7 +21,7 @@ sets Equals = true
 sets TwoEquals = true
 sets _ = false
 
--- a token of another sort assigns nothing
+-- a token other than `=` and `==` assigns nothing
 module _ (target : Lexeme) (end : ℕ) where
   name_unset : (sign : Sort) → sets sign ≡ false → set_by Name sign target end ≡ None
   name_unset Equals other = absurd (true≢false other)

@@ -28,7 +28,7 @@ abbrev pub whole_actual : ActualKind → ℕ → ℕ → Actual
 whole_actual kind start end =
     record { kind = kind; inside = record { start = start; end = end }; is_closed = true; end = end }
 
--- a bracketed actual, from the column after its `<` on; without its `>` it extends to the end of the line
+-- a bracketed actual, whose `<` is directly before this column; without its `>` it extends to the end of the line
 abbrev pub bracketed_actual : Bytes → ℕ → Actual
 bracketed_actual line start =
     let enclosed = bracketed (drop start line) in record {
@@ -38,9 +38,9 @@ bracketed_actual line start =
       end = if enclosed.is_closed then start + enclosed.length + 1 else start + enclosed.length;
     }
 
--- the next actual from a column on, after blanks and tabs; its first character decides its kind: `<` begins a bracketed one, `\` is
--- before an expression if digits are wanted, and any other character begins one that extends to a comma, a blank, a tab, a `;` or
--- the end of the line; there is no actual at the end of the line or at a `;`, and an empty one at a comma
+-- the next actual at or after a column; blanks and tabs before it are skipped. Its first character decides its kind: `<` begins a
+-- bracketed one, `\` comes before an expression if `gives_digits`, and any other character begins one that extends to a comma, a
+-- blank, a tab, a `;` or the end of the line. There is no actual at the end of the line or at a `;`; at a comma the actual is empty
 abbrev pub next_actual : Bytes → ℕ → Bool → Option Actual
 next_actual line column gives_digits =
     let start = column + prefix_len is_blank (drop column line) in elim (drop start line) [

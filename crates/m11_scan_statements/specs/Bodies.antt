@@ -15,8 +15,8 @@ use Rattle.m11_scan_statements.specs.Listed.{is_name, span_of}
 use Rattle.m11_scan_statements.specs.declared.bodies.Body.{Body}
 use Rattle.m11_scan_statements.specs.declared.bodies.Body.TheVariants.{Nothing, Assign, SetCounter, Operate, Words}
 
--- the assignment to `target`, a token of the first sort, by a token of the second sort after it; the assigned value begins at column
--- `value`; `=` may follow the location counter, and `=` or `==` any other name; otherwise none
+-- the assignment to `target`, a token of the first sort, by a token of the second sort after it; none if these make no assignment.
+-- `=` assigns to the location counter, and `=` or `==` to any other name. The assigned value begins at column `value`
 abbrev pub set_by : Sort → Sort → Lexeme → ℕ → Option Body
 set_by sorts.Name sorts.Equals target value =
     if is_counter target.text then Some (SetCounter value)
@@ -40,7 +40,7 @@ abbrev pub begins_or_ends : Bytes → Bool
 begins_or_ends [] = true
 begins_or_ends (byte ∷ text) = is_operand_start byte
 
--- whether a text is empty after its leading blanks and tabs, or goes on with a character for which `is_operand_start` is true
+-- whether a text, after its leading blanks and tabs, ends or goes on with a character for which `is_operand_start` is true
 abbrev pub begins_operand : Bytes → Bool
 begins_operand text = begins_or_ends (drop (prefix_len is_blank text) text)
 

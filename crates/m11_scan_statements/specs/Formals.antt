@@ -13,8 +13,8 @@ use Rattle.m11_scan_statements.specs.declared.formals.NextFormal.TheVariants.{En
 abbrev pub follows_question : Bytes → ℕ → Bool
 follows_question line column = bytes_eq (text_between line (column - 1) column) (0o77 ∷ [])
 
--- the next item in a list of formals from a column on: a name other than `.`, with created symbols if a `?` directly precedes it;
--- or another token, which is bad; or the end of the list if no token is left
+-- the next item in a list of formals, at or after a column: a name other than `.`, with created symbols if a `?` directly precedes
+-- it; or another token, which is bad; or the end of the list if no token is left
 abbrev pub next_formal : Bytes → ℕ → NextFormal
 next_formal line column = elim (tokens_from line column) [
   | [] ↦ Ends

@@ -24,8 +24,8 @@ numbered text =
     let number = number_of Decimal (take (prefix_len is_digit text) text) in
     if nat_le 1 number && nat_le number 65535 then Local number else Outside
 
--- the kind of the label that a token of the first sort, with this text, and a token of the second sort form, if they can form one; for a
--- local symbol `::` counts as `:`
+-- the kind of the label that two tokens form: one of the first sort, with this text, and one of the second sort; none if they form no
+-- label. After a local symbol `::` counts as `:`
 abbrev pub kind_of : Sort → Sort → Bytes → Option LabelKind
 kind_of Name Colon text = if is_counter text then None else Some Ordinary
 kind_of Name TwoColons text = if is_counter text then None else Some Global
@@ -33,7 +33,7 @@ kind_of LocalSymbol Colon text = Some (numbered text)
 kind_of LocalSymbol TwoColons text = Some (numbered text)
 kind_of _ _ text = None
 
--- the label that a token and the next one form: a name or a local symbol, directly followed by `:` or `::`; otherwise none
+-- the label that a token and the next one form: a name other than `.` or a local symbol, directly followed by `:` or `::`; otherwise none
 abbrev pub label_of : Lexeme → Lexeme → Option Label
 label_of name colon =
     if name.end == colon.start

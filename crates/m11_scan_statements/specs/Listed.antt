@@ -35,7 +35,7 @@ passed_over column [] = element None false column
 passed_over column (token ∷ tokens) =
     if is_comma token.sort then element None true token.end else passed_over token.end tokens
 
--- the element at a column of a list of names; the tokens are those from the column on
+-- the element of a list of names that begins at a column; the tokens are those at or after the column
 abbrev pub listed_name : ℕ → List Lexeme → ListedName
 listed_name column [] = passed_over column []
 listed_name column (token ∷ tokens) =

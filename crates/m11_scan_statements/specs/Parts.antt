@@ -18,8 +18,8 @@ abbrev pub is_closing : Sort → Bool
 is_closing Greater = true
 is_closing _ = false
 
--- the part that is a text, from the column after its first delimiter on; without its second delimiter it extends to the end of the
--- line
+-- a part that is a text, whose first delimiter is directly before this column; without its second delimiter it extends to the end of
+-- the line
 abbrev pub text_part : Bytes → ℕ → ℕ → Part
 text_part line start delimiter =
     let enclosed = delimited delimiter (drop start line) in record {
@@ -33,7 +33,7 @@ abbrev pub expression : ℕ → ℕ → Bool → ℕ → Part
 expression start inside_end is_closed end =
     record { kind = Expression; inside = record { start = start; end = inside_end }; is_closed = is_closed; end = end }
 
--- the part that is an expression, from the column after its `<` on; the part is closed if the token after the expression is a `>`
+-- a part that is an expression, whose `<` is directly before this column; it is closed if the token after the expression is a `>`
 abbrev pub expression_part : Bytes → ℕ → Part
 expression_part line start =
     let end = expression_end line start in elim (tokens_from line end) [
@@ -42,9 +42,9 @@ expression_part line start =
           if is_closing token.sort then expression start end true token.end else expression start end false end
     ]
 
--- the next part from a column on, after blanks and characters without a printed form; its first character decides its kind: `<` is
--- before an expression, and any other character is the delimiter of a text; there is no part at the end of the line, nor at a `;`
--- unless `is_first`
+-- the next part at or after a column; blanks and characters without a printed form before it are skipped. Its first character
+-- decides its kind: `<` comes before an expression, and any other character is the delimiter of a text. There is no part at the end
+-- of the line, nor at a `;` unless `is_first`
 abbrev pub next_part : Bytes → ℕ → Bool → Option Part
 next_part line column is_first =
     let start = column + prefix_len is_unprinted (drop column line) in elim (drop start line) [
@@ -54,7 +54,8 @@ next_part line column is_first =
           else (if byte == 0o74 then Some (expression_part line (start + 1)) else Some (text_part line (start + 1) byte))
     ]
 
--- the parts from a column on, and the column after them; the Boolean says whether the first of them is the first of the text
+-- these are all the parts at or after the first column, in order, and the second column is the one after the last part; without parts, the
+-- two columns are the same. The Boolean says whether the first of these parts is the first of the directive
 pub data AreParts (line : Bytes) : Bool → ℕ → List Part → ℕ → Type 0 where
   -- the parts end where there is no next one
   End : (is_first : Bool) (column : ℕ) → next_part line column is_first ≡ None → AreParts line is_first column [] column

@@ -25,8 +25,8 @@ is_outside _ = false
 abbrev pub has_outside : List Label → Bool
 has_outside labels = list_any (λ label. is_outside label.kind) labels
 
--- the flags of a line that don't depend on its body: L if it is over-long, A for a label that is a local symbol outside 1 to 65535,
--- and I for a character that is skipped before the end of the labels
+-- the flags of a line that don't depend on its body: L for an over-long line, A for a label that is a local symbol outside 1 to 65535,
+-- and I for a skipped character before the end of the labels
 abbrev pub label_flags : SourceLine → ℕ
 label_flags line =
     bit_or (bit_or (flag_if line.is_over_long flag_L) (flag_if (has_outside (labels_at line.text)) flag_A))

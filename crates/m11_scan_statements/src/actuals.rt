@@ -37,7 +37,7 @@ pub struct Actual {
     pub end: u8,
 }
 
-/// The separator between two arguments: blanks and tabs, among them at most one comma, or nothing.
+/// The separator between two arguments: blanks and tabs with at most one comma among them, or nothing.
 #[derive(Clone, Copy, PartialEq, Eq, Debug)]
 pub struct Separator {
     /// Whether the separator has a comma.
@@ -64,8 +64,8 @@ fn begins_with_comma(text: &[u8]) -> bool
     matches!(text, [b',', ..])
 }
 
-/// The next actual from a column of a line on, after blanks and tabs. There is none at the end of the line or at a `;`; at a comma
-/// it is empty. `\` is an ordinary character unless `gives_digits`.
+/// The next actual at or after a column of a line; blanks and tabs before it are skipped. There is none at the end of the line or at
+/// a `;`; at a comma the actual is empty. `\` is an ordinary character unless `gives_digits` is true.
 pub fn next_actual(line: &Line, column: u8, gives_digits: bool) -> Option<Actual>
     ensures { result ≡ spec.next_actual line.now.text column gives_digits }
 {

@@ -39,7 +39,7 @@ pub enum Body {
     Words(u8),
 }
 
-// The body from a column of a line on. `next` is the next token from that column on, if there is one.
+// The body that begins at or after a column of a line. `next` is the first token at or after that column, if there is one.
 pub(crate) fn body_at(line: &Line, column: u8, next: Option<Token>) -> Body
     requires { MatchOption next (tokens_from line.now.text column ≡ [])
         (λ token. tokens_from line.now.text column ≡ lexeme line.now.text token ∷ tokens_from line.now.text token.end) }
@@ -62,7 +62,8 @@ fn begun_body(line: &Line, first: Token) -> Body
     }
 }
 
-// The assignment that the next token after `target` makes to it, if it makes one, and if only blanks and tabs are between the two.
+// The assignment that the next token after `target` makes to `target`, if that token makes one and only blanks and tabs are between the
+// two.
 fn assignment_to(line: &Line, target: Token) -> Option<Body>
     ensures { result
         ≡ spec.assignment_to line.now.text (lexeme line.now.text target) (tokens_from line.now.text target.end) }
@@ -82,8 +83,7 @@ fn assignment_to(line: &Line, target: Token) -> Option<Body>
     }
 }
 
-// Whether the line from a column on is empty after the blanks and tabs there, or goes on with a character for which `is_operand_start` is
-// true.
+// Whether a line, after the blanks and tabs at a column, ends or goes on with a character for which `is_operand_start` is true.
 fn begins_operand(line: &Line, column: u8) -> bool
     ensures { result ≡ spec.begins_operand (drop column line.now.text) }
 {

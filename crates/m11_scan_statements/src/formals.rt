@@ -29,7 +29,7 @@ pub enum NextFormal {
     Named(Formal),
 }
 
-/// The next item in a list of formals from a column of a line on.
+/// The next item in a list of formals, at or after a column of a line.
 pub fn next_formal(line: &Line, column: u8) -> NextFormal
     ensures { result ≡ spec.next_formal line.now.text column }
 {

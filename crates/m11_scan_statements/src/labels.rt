@@ -32,7 +32,7 @@ pub enum LabelKind {
 /// A label in a line.
 #[derive(Clone, Copy, PartialEq, Eq, Debug, Default)]
 pub struct Label {
-    /// Whether it defines a name, a local symbol or nothing.
+    /// What it defines: a name, a global name, a local symbol or nothing.
     pub kind: LabelKind,
     /// The name or the local symbol.
     pub name: Span,
@@ -56,7 +56,7 @@ pub fn labels_of(line: &Line) -> ArrayVec<Label, LABEL_LIMIT>
     list
 }
 
-// The end of a line's labels, what the line's statement records of them, and the token after them.
+// The end of a line's labels, the facts about them that a statement needs, and the token after them.
 #[derive(Clone, Copy)]
 pub(crate) struct LabelField {
     // The column after the last label; 0 if there is none.
@@ -114,7 +114,7 @@ fn is_outside(kind: LabelKind) -> bool
     matches!(kind, LabelKind::Outside)
 }
 
-// The label that begins with the next token from a column on, if there is one.
+// The label that begins with the first token at or after a column, if there is one.
 fn label_at(line: &Line, column: u8) -> Option<Label>
     ensures label { MatchOption result (spec.labels_in (tokens_from line.now.text column) ≡ [])
         (λ label. spec.labels_in (tokens_from line.now.text column)
@@ -137,7 +137,7 @@ fn label_by(line: &Line, name: Token) -> Option<Label>
     ensures after { IfSome result (λ label. name.end < label.end) }
     ensures within { IfSome result (λ label. label.end ≤ line_limit) }
 {
-    // a label has a colon directly after it
+    // the colon of a label comes directly after its name
     let colon = token_at(line, name.end)?;
     label_of(line, name, colon)
 }

@@ -14,7 +14,8 @@ pub fn labels_and_body_stand_in_order()
     ensures body { (line : Bytes) → BodyLies (labels_end line) (length line) (body_of line) }
 {}
 
-/// Lines that differ only in the case of letters have the same labels, bodies, columns and flags.
+/// Lines that differ only in the case of letters have the same labels and bodies, at the same columns, and the same flags that don't depend
+/// on the body.
 #[tactic(auto, using(crate::proofs::Folded::cases))]
 pub fn case_makes_no_difference()
     ensures labels { (a b : Bytes) → map folded a ≡ map folded b → labels_at a ≡ labels_at b }

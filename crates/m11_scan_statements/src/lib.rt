@@ -30,7 +30,7 @@ mod formals;
 pub use actuals::{Actual, ActualKind, Separator, next_actual, separator_at};
 pub use formals::{Formal, NextFormal, next_formal};
 
-// Laws of the order of these parts, and of upper and lower case.
+// Laws of the order of labels and bodies, and of upper and lower case.
 mod laws;
 
 pub use laws::{case_makes_no_difference, labels_and_body_stand_in_order};

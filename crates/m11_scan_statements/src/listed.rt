@@ -20,7 +20,8 @@ pub struct ListedName {
     pub end: u8,
 }
 
-/// The element at a column of a list of names. If no comma follows it, the list ends, and the rest of the line is left over.
+/// The element of a list of names that begins at a column of a line. If no comma follows it, the list ends, and the rest of the line
+/// is left over.
 pub fn listed_name(line: &Line, column: u8) -> ListedName
     ensures { result ≡ spec.listed_name column (tokens_from line.now.text column) }
 {

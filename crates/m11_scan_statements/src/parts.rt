@@ -35,7 +35,7 @@ pub struct Part {
 }
 
 impl Part {
-    /// A if the second delimiter of a text is missing, Q if the `>` of an expression is, otherwise none.
+    /// A if the second delimiter of a text is missing, Q if the `>` of an expression is missing, otherwise no flags.
     pub fn flags(&self) -> ErrorFlags
         ensures { bits_of result ≡ spec.part_flags self.now }
     {
@@ -47,8 +47,9 @@ impl Part {
     }
 }
 
-/// The next part from a column of a line on, after blanks and characters without a printed form. There is none at the end of the
-/// line. A `;` is the delimiter of a text if `is_first`; otherwise it begins a comment, and there is no next part.
+/// The next part at or after a column of a line; blanks and characters without a printed form before it are skipped. There is none
+/// at the end of the line. A `;` is the delimiter of a text if `is_first` is true; otherwise it begins a comment, and there is no
+/// next part.
 pub fn next_part(line: &Line, column: u8, is_first: bool) -> Option<Part>
     ensures part { result ≡ spec.next_part line.now.text column is_first }
     ensures begins { IfSome result (λ _. column < line_limit) }

@@ -15,7 +15,7 @@ pub struct Span {
 }
 
 impl Span {
-    /// The characters of the span, given the line that it belongs to; none if the line ends before the span does.
+    /// The span's characters in the line that it belongs to; none if the line ends before the span does.
     pub fn text<'a>(&self, line: &'a Line) -> &'a [u8]
         ensures { result.now ≡ text_between line.now.text self.now.start self.now.end }
     {

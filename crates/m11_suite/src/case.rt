@@ -62,7 +62,7 @@ pub(crate) fn read_case(alloc: Global, text: &str) -> Result<Vec<Command>, CaseF
 }
 
 impl Reading {
-    // Reads a line: skips an empty line and a comment, adds the bytes of a line of content, or begins a part. Error: the fault of the line.
+    // Reads a line: skips an empty line or a comment, adds the bytes of a line of content, or begins a part. Error: the fault of the line.
     fn line(&mut self, alloc: Global, line: &str) -> Result<(), LineFault> {
         match line.as_bytes() {
             [] | [b';', ..] => Ok(()),
@@ -83,7 +83,8 @@ impl Reading {
         }
     }
 
-    // Adds bytes to the part to which content belongs. Errors: `NoCommand`; `NoDestination` if no part is open; `NoMemory`.
+    // Adds bytes to the part to which content belongs. Errors: `NoCommand` if no command has begun; `NoDestination` if no part is open for
+    // content; `NoMemory`.
     fn content(&mut self, bytes: &[u8]) -> Result<(), LineFault> {
         let destination = self.destination;
         let command = self.commands.last_mut().ok_or(LineFault::NoCommand)?;
@@ -99,7 +100,8 @@ impl Reading {
     }
 
     // Reads a line that begins a part: its name, and after a space its words, its path or its status. `words` begins a new command. Errors:
-    // `NoCommand`; `UnknownPart`; `BadStatus`; `BadEscape` or `BadText` in a word or a path; `NoMemory`.
+    // `NoCommand` for any other line before the first command; `UnknownPart`; `BadStatus`; `BadEscape` or `BadText` in a word or a path;
+    // `NoMemory`.
     fn part(&mut self, alloc: Global, line: &str) -> Result<(), LineFault> {
         let (name, rest) = line.split_once(' ').unwrap_or((line, ""));
         if name == "words" {
@@ -130,8 +132,8 @@ impl Reading {
     }
 }
 
-// A command `m11` with these words, which blanks separate. It has no files and no input; its expected result is status 0, and no output.
-// Errors: `BadEscape` or `BadText` in a word; `NoMemory`.
+// A command `m11` with these words, which are separated by ASCII white space. It has no files and no input; its expected result is status
+// 0, and no output. Errors: `BadEscape` or `BadText` in a word; `NoMemory`.
 fn command_of(alloc: Global, texts: &str) -> Result<Command, LineFault> {
     let mut words = Vec::new(alloc);
     words.push(String::from_str(alloc, "m11")?)?;
@@ -164,7 +166,8 @@ fn empty_file(alloc: Global, path: &str) -> Result<MemoryFile, LineFault> {
     })
 }
 
-// The bytes of a line of digits, up to a comment after `;`: hexadecimal after `=`, octal after `= 0o`. Errors: `BadByte`; `NoMemory`.
+// The bytes that the digits of a line spell, up to a comment after `;`: hexadecimal after `=`, octal after `= 0o`. Errors: `BadByte`;
+// `NoMemory`.
 fn bytes_of(alloc: Global, line: &str) -> Result<Vec<u8>, LineFault> {
     let (digits, _comment) = line.split_once(';').unwrap_or((line, ""));
     let mut bytes = Vec::new(alloc);

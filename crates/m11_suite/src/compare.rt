@@ -20,11 +20,11 @@ pub(crate) struct Found<'a> {
 pub(crate) enum Difference<'a> {
     /// The status found.
     Status(u8),
-    /// A difference in standard output, standard error or the file with this name, from this byte on, counted from 0.
+    /// The output with this name, `stdout`, `stderr` or the path of a file, and the index, from 0, of the first byte in which it differs.
     Bytes(&'a str, usize),
-    /// A file that was not created.
+    /// The path of an expected file that was not created.
     Missing(&'a str),
-    /// A file that was created, and that the case doesn't list.
+    /// The path of a file that was created, but that the case doesn't list.
     Unnamed(&'a str),
 }
 
@@ -94,7 +94,7 @@ fn file_of<'a>(files: &'a [MemoryFile], path: &str) -> Option<&'a MemoryFile> {
     None
 }
 
-// The first difference of two texts, if there is one: at the end of the shorter if the other begins with it.
+// The first difference of the bytes found from those expected, if there is one: at the end of the shorter if the other begins with it.
 fn bytes_differ<'a>(name: &'a str, found: &[u8], wanted: &[u8]) -> Option<Difference<'a>>
     ensures { IsNone result ↔ (found.now ≡ wanted.now) }
 {
@@ -104,7 +104,8 @@ fn bytes_differ<'a>(name: &'a str, found: &[u8], wanted: &[u8]) -> Option<Differ
     Some(Difference::Bytes(name, first_differing(found, wanted)))
 }
 
-// The index of the first byte of `found` that differs from `wanted` or is past its end; the length of `found` if `wanted` begins with it.
+// The index of the first byte of `found` that differs from the one in `wanted` or lies past the end of `wanted`; the length of `found` if
+// `wanted` begins with `found`.
 fn first_differing(found: &[u8], wanted: &[u8]) -> usize {
     for (index, byte) in found.iter().enumerate() {
         if wanted.get(index) != Some(byte) {

@@ -45,8 +45,8 @@ pub(crate) fn byte_of_octal(digits: &[u8]) -> Option<u8>
     }
 }
 
-// The first byte of a text, and the text after it. The byte is a character, or is denoted by an escape: `\t`, `\r`, `\0`, `\\`, or `\x`
-// with two hexadecimal digits. Error: `BadEscape`, for any other escape, and for an empty text.
+// The first byte of a text, and the text after it. The byte is written as itself, or as an escape: `\t`, `\r`, `\0`, `\\`, or `\x` with two
+// hexadecimal digits. Error: `BadEscape`, for any other escape, and for an empty text.
 fn first_of(text: &[u8]) -> Result<(u8, &[u8]), LineFault>
     ensures { IfOk result (λ r. length r.1.now < length text.now) }
 {

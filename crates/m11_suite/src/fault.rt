@@ -9,7 +9,7 @@ pub(crate) enum LineFault {
     /// The line doesn't begin with the name of a part of a case.
     #[error("no part of a case")]
     UnknownPart,
-    /// No line of words comes before the line.
+    /// No line that begins a command comes before the line.
     #[error("no command before it")]
     NoCommand,
     /// The line is content, but the part before it can't have any.

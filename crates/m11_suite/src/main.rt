@@ -1,5 +1,5 @@
-//! Runs the suite: reads an index of cases, runs the commands of each case with files in memory, and reports the fault of the text or the
-//! first difference of each case that fails. The number of cases that pass comes last.
+//! Runs the suite: reads an index of cases, runs the commands of each case with files in memory, and reports, for each case that fails, the
+//! fault in its text or the first difference in its results. The number of cases that pass is printed last.
 #![tactic(auto)]
 
 // A case, read from its text.
@@ -33,7 +33,8 @@ fn main(rt: HostRuntime) -> Result<ExitCode> {
     })
 }
 
-// Runs the cases of an index, which are in the folder of the index, and returns whether all pass. Error: the index or a case can't be read.
+// Runs the cases of an index, which are in the folder of the index, and returns whether all pass. Error: the index or a case can't be read,
+// the report can't be printed, or memory was refused.
 fn run_index(rt: &(impl Files + AllocGlobal + Print), index: &str) -> Result<bool> {
     let names = fs::read_to_string(rt, index).context(format_args!("reading {index}"))?;
     let holds = run_cases(rt, folder_of(index), names.as_str());
@@ -42,7 +43,7 @@ fn run_index(rt: &(impl Files + AllocGlobal + Print), index: &str) -> Result<boo
 }
 
 // Runs the cases of these lines. Each line is the name of a case, empty, or a comment that begins with `#`. Reports how many cases pass,
-// and returns whether all do. Error: a case can't be read.
+// and returns whether all do. Error: a case can't be read, the report can't be printed, or memory was refused.
 fn run_cases(rt: &(impl Files + AllocGlobal + Print), folder: &str, names: &str) -> Result<bool> {
     let mut all: u64 = 0;
     let mut holding: u64 = 0;
@@ -60,8 +61,8 @@ fn run_cases(rt: &(impl Files + AllocGlobal + Print), folder: &str, names: &str)
     Ok(holding == all)
 }
 
-// Runs a case, reports the fault of its text or the first difference of its results, and returns whether there is neither. Error: the case
-// can't be read.
+// Runs a case, reports the fault in its text or the first difference in its results, and returns whether there is neither. Error: the case
+// can't be read, the report can't be printed, or memory was refused.
 fn holds(rt: &(impl Files + AllocGlobal + Print), folder: &str, name: &str) -> Result<bool> {
     let text = text_of(rt, folder, name)?;
     let what = reported(rt.alloc(), text.as_str());
@@ -75,7 +76,7 @@ fn holds(rt: &(impl Files + AllocGlobal + Print), folder: &str, name: &str) -> R
     }
 }
 
-// Reads the text of a case: the file NAME.case in this folder.
+// Reads the text of a case: the file NAME.case in this folder. Error: the file can't be read, or memory was refused.
 fn text_of(rt: &(impl Files + AllocGlobal), folder: &str, name: &str) -> Result<String> {
     let path = format!(in rt.alloc(); "{folder}{name}.case")?;
     let text = fs::read_to_string(rt, path.as_str()).context(format_args!("reading {path}"));
@@ -91,7 +92,7 @@ fn folder_of(index: &str) -> &str {
     }
 }
 
-// The report on a case: the fault of its text, or the first difference of its results; None if it passes.
+// The report on a case: the fault in its text, or the first difference in its results; None if the case passes. Error: memory was refused.
 fn reported(alloc: Global, text: &str) -> Result<Option<String>, AllocError> {
     match read_case(alloc, text) {
         Ok(commands) => run_case(alloc, commands),

@@ -122,8 +122,8 @@ fn kept(
     Ok(None)
 }
 
-// Adds the files that a command created, each with the bytes written to it; a file that was not handed back is empty. Error: memory was
-// refused.
+// Adds the files that a command created, each with the bytes written to it; a file whose output was not handed back is empty. Error: memory
+// was refused.
 fn put_outputs(
     alloc: Global,
     outputs: &mut Vec<MemoryFile>,

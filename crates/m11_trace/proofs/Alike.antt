@@ -30,7 +30,7 @@ four_same a b c d e f g h is =
     let first = two_same a b c d parts.0 in
     let second = two_same e f g h parts.1 in (first.0, first.1, second.0, second.1)
 
--- one more word is alike
+-- if the next word is equal too, the words are equal up to the index after it
 one_alike : (words memory : List ℕ) (from to next address : ℕ) → AreAlike words memory from to → next ≡ to + 1 → address ≡ 2 * to
     → get_or words to 0 ≡ word_at memory address → AreAlike words memory from next
 one_alike words memory from to next address before one breakpoint same = λ k le lt. elim (cases_lt k to) [

@@ -1,4 +1,4 @@
--- The addresses that are shown are those of the words that have changed.
+-- The addresses that are shown are those of the words that changed.
 use Rattle.std.proofs.Common.{◌≡◌, ◌≢◌, ◌↔◌, ◌∙◌, ℕ, zero, suc, ◌*◌, ◌%◌, ◌<◌, Bool, true, false, cond, not, List, [], ◌∷◌, ◌++◌, inl, inr, sym, subst, ap, arith}
 use Rattle.std.specs.List.{Contains, filter}
 use Rattle.std.proofs.lemmas.Bool.{cases_lt, eq-eqb, ne_eqb}
@@ -17,7 +17,7 @@ even_inside (suc count) address h =
       | inr e ↦ (omega (arith, e), omega (arith, e))
     ]
 
--- ---- those at which the words differ
+-- ---- the addresses at which the words differ
 
 differs : (before later : List ℕ) (address : ℕ) → has_changed before later address ≡ true → word_at before address ≢ word_at later address
 differs before later address h e =

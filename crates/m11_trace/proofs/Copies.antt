@@ -1,4 +1,4 @@
--- The copy of the words of a memory, and the words that have changed since.
+-- A copy of the words of a memory, and the words that changed since it was made.
 use Rattle.std.proofs.Common.{◌≡◌, ◌∙◌, ℕ, zero, suc, ◌+◌, ◌-◌, ◌*◌, ◌/◌, ◌<◌, ◌≤◌, ◌==◌, Bool, true, false, cond, not, List, [], ◌∷◌, ◌++◌, length, get_or, set, append-nil, append_assoc, Option, Ok, Err, refl, sym, subst, ap, ap₂, arith}
 use borrow.Author.Count.{below_more}
 use Rattle.std.specs.Prelude.{filter, flat_map, nat_le}
@@ -31,7 +31,7 @@ no_word memory address past =
     let high = get_or_past memory (address + 1) 0 (omega (arith, past)) in
     omega (arith, low, high)
 
--- a word of a copy
+-- the word at twice an index in the bytes of a copy is the copy's element at that index
 pub copied : (words : List ℕ) (index : ℕ) → word_at (bytes_of words) (2 * index) ≡ get_or words index 0
 copied words index =
     let half : 2 * index / 2 ≡ index = omega arith in
@@ -41,9 +41,9 @@ pub same_words : (words memory : List ℕ) → ((k : ℕ) → k < most_words →
     → HaveSameWords (bytes_of words) memory
 same_words words memory each = λ k lt. copied words k ∙ each k lt
 
--- ---- what has changed
+-- ---- the words that changed
 
--- a word at an address, if it has changed
+-- the field of the word at an address, if it changed; otherwise nothing
 abbrev pub change_at : List ℕ → List ℕ → ℕ → List ℕ
 change_at before later address = cond (has_changed before later address) (word_text address (word_at later address)) []
 
@@ -55,7 +55,7 @@ pub none_yet : (before later : List ℕ) → changes_among 0 before later ≡ []
 unfolding changes_among changed_among even_addresses
 none_yet before later = refl
 
--- one more address
+-- the changes at one more address are the earlier ones and the change at that address
 pub one_more : (count : ℕ) (before later : List ℕ)
     → changes_among (suc count) before later ≡ changes_among count before later ++ change_at before later (2 * count)
 unfolding changes_among changed_among even_addresses
@@ -66,7 +66,7 @@ one_more count before later =
     ∙ flat_map-append text (filter test (even_addresses count)) (filter test (2 * count ∷ []))
     ∙ ap (λ (t : List ℕ). flat_map text (filter test (even_addresses count)) ++ t) (if_changed (test (2 * count)) (2 * count) text)
 
--- what has changed at the first addresses stands before the rest
+-- the changes at the first addresses come before the rest
 more_follow : (more count : ℕ) (before later : List ℕ)
     → (rest : List ℕ) × (changes_among (count + more) before later ≡ changes_among count before later ++ rest)
 more_follow zero count before later =
@@ -88,7 +88,7 @@ begins_all count before later le =
     let rest = more_follow (most_words - count) count before later in
     (rest.0, ap (λ (n : ℕ). changes_among n before later) whole ∙ rest.1)
 
--- the changes since one memory are those since any other with the same words
+-- if two memories have the same words at the first addresses, the changes there from either to a later memory are the same
 changes_since : (count : ℕ) (a b later : List ℕ) → ((k : ℕ) → k < count → word_at a (2 * k) ≡ word_at b (2 * k))
     → changes_among count a later ≡ changes_among count b later
 changes_since zero a b later same = none_yet a later ∙ sym (none_yet b later)
@@ -103,9 +103,9 @@ changes_since (suc count) a b later same =
 pub changes_alike : (a b later : List ℕ) → HaveSameWords a b → memory_changes a later ≡ memory_changes b later
 changes_alike a b later same = changes_since most_words a b later same
 
--- ---- the walk over them
+-- ---- the search for changed words
 
--- the words before an index were looked at: the copy has them, and those that have changed were put
+-- the words before an index were compared: the copy now has them, and those that changed were written
 pub record Walked (copy words memory : List ℕ) (index : ℕ) (a b : Option (List ℕ)) (f g : ℕ) : Type 0 where
   pub done : (k : ℕ) → k < index → get_or words k 0 ≡ word_at memory (2 * k)
   pub left : (k : ℕ) → index ≤ k → get_or words k 0 ≡ get_or copy k 0
@@ -129,12 +129,12 @@ module _ (copy words memory : List ℕ) (index : ℕ) (a b : Option (List ℕ)) 
   next : suc index ≡ index + 1
   next = omega arith
 
-  -- the words before the next index are there
+  -- the copy has the words of the memory before the next index
   up_to : (others : List ℕ) → ((k : ℕ) → k < index → get_or others k 0 ≡ word_at memory (2 * k)) → get_or others index 0 ≡ word
       → (k : ℕ) → k < index + 1 → get_or others k 0 ≡ word_at memory (2 * k)
   up_to others each here = below_more (λ k. get_or others k 0 ≡ word_at memory (2 * k)) index each (here ∙ is)
 
-  -- the change by whether there is one
+  -- the changes up to this word are the earlier ones, and the word's field if it changed
   by_test : (t : Bool) → (word_at (bytes_of copy) (2 * index) == word_at memory (2 * index)) ≡ t
       → changes_among index (bytes_of copy) memory ++ cond (not t) (word_text (2 * index) word) []
       ≡ changes_among (index + 1) (bytes_of copy) memory
@@ -144,7 +144,7 @@ module _ (copy words memory : List ℕ) (index : ℕ) (a b : Option (List ℕ)) 
       ap (λ (x : List ℕ). done ++ x) (ap₂ text (sym e) is) ∙ sym (one_more index (bytes_of copy) memory)
       ∙ ap (λ (n : ℕ). changes_among n (bytes_of copy) memory) next
 
-  -- a word that has not changed
+  -- the search goes on after a word that hasn't changed
   pub one_kept : get_or words index 0 ≡ word → Walked copy words memory (index + 1) a b f g
   one_kept here =
       let all = sym (append-nil (changes_among index (bytes_of copy) memory)) ∙ by_test true (eq-eqb _ _ (before_is ∙ here ∙ is)) in
@@ -161,7 +161,7 @@ module _ (copy words memory : List ℕ) (index : ℕ) (a b : Option (List ℕ)) 
         ap (λ (t : List ℕ). changes_among index (bytes_of copy) memory ++ t) text_is
         ∙ by_test false (ne_eqb _ _ (λ e. changed (sym before_is ∙ e ∙ sym is)))
 
-    -- one that has
+    -- the search goes on after a word that changed and was written
     pub one_changed : (c : Option (List ℕ)) (h : ℕ) → index < length words → Appends b c text → h ≡ g
         → Walked copy (set words index word) memory (index + 1) a c f h
     one_changed c h lt put sound =
@@ -175,7 +175,7 @@ module _ (copy words memory : List ℕ) (index : ℕ) (a b : Option (List ℕ)) 
           sound = sound ∙ w.sound;
         }
 
-    -- it could not be put
+    -- if a changed word can't be written, only a prefix of all changes is written
     pub change_failed : (c : Option (List ℕ)) (h : ℕ) (fault : SimFault)
         → PutsMessages {A = Unit {0}} b c g h text (Err fault)
         → PutsMessages {A = Unit {0}} a c f h (memory_changes (bytes_of copy) memory) (Err fault)
@@ -188,7 +188,7 @@ module _ (copy words memory : List ℕ) (index : ℕ) (a b : Option (List ℕ)) 
     change_failed c h NoMemory put = absurd put
     change_failed c h (Load fault) put = absurd put
 
--- words that are alike were looked at
+-- the search goes on after words that equal those of the memory
 pub alike_walked : (copy words memory : List ℕ) (n index to : ℕ) (a b : Option (List ℕ)) (f g : ℕ)
     → Walked copy words memory index a b f g → to ≡ index + n → to ≤ most_words → AreAlike words memory index to
     → Walked copy words memory to a b f g
@@ -225,12 +225,12 @@ line_as symbols first number shot words m m'' is same =
     ] in
     by (nat_le first number) (λ e. same (leb-true first number e))
 
--- a copy keeps up with a memory under whichever name
+-- a copy that keeps up with a memory keeps up with any equal one
 pub keeps_up : (first count : ℕ) (words memory same : List ℕ) → memory ≡ same → KeepsUp first count words memory
     → KeepsUp first count words same
 keeps_up first count words memory same is keeps = subst (λ (bytes : List ℕ). KeepsUp first count words bytes) is keeps
 
--- if the copy has the words of the memory before the step, the line of the step is put
+-- if the copy has the words of the memory before the step, the line with its changes is the line of the step
 pub line_is : (symbols : List Symbol) (first number : ℕ) (shot : Shot) (words earlier later : List ℕ) (m m'' : Machine) → earlier ≡ m.memory
     → later ≡ m''.memory → shot ≡ shot_of m m'' → (first ≤ number → HaveSameWords (bytes_of words) earlier)
     → line_from first number (line_with symbols number shot (memory_changes (bytes_of words) later))

@@ -11,7 +11,7 @@ use Rattle.m11_cpu.specs.Runs.{run_counted}
 use Rattle.m11_cpu.proofs.RunsDone.{GoesOn, begins, ends, goes_on, ran, stops}
 use Rattle.m11_trace.specs.Taken.{Follow, TracedStep, Yielded}
 
--- a run goes on after them
+-- after steps of which the latest yielded `Next`, a run within its limit goes on
 pub gone : (limit : ℕ) (taken : List TracedStep) (m m' : Machine) (old new : Devices) → length taken ≤ limit → Follow m old taken m' new
     → Yielded Next taken → GoesOn limit (length taken) m m' old new
 gone limit [] m m' old new le f next =
@@ -29,7 +29,7 @@ gone limit (last ∷ earlier) m m' old new le f next =
     let whole = goes_on limit (length earlier) m last.before last.later old f.0 new below before (subst Q next f.3) in
     subst P (sym f.4) (subst N one whole)
 
--- all steps that were allowed
+-- if the latest of these steps yielded `Next`, they are those of a run with as many steps as its limit
 pub runs_out : (taken : List TracedStep) (m m' : Machine) (old new : Devices) → Follow m old taken m' new → Yielded Next taken
     → Does (run_counted (length taken) m) old new (ran Limit (length taken), m')
 runs_out taken m m' old new f next =
@@ -39,7 +39,7 @@ runs_out taken m m' old new f next =
 no_stop : (stop : Stop) (X : Type 0) → Stopped stop ≡ Next → X
 no_stop stop X e = absurd cc
 
--- up to one that stopped
+-- if the latest of these steps stopped, they are those of a run with this limit
 pub runs_stop : (limit : ℕ) (stop : Stop) (taken : List TracedStep) (m m' : Machine) (old new : Devices) → length taken ≤ limit
     → Follow m old taken m' new → Yielded (Stopped stop) taken
     → Does (run_counted limit m) old new (ran stop (length taken), m')

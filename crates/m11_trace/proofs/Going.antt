@@ -37,20 +37,20 @@ pub appends_nothing : (text : Option (List ℕ)) → Appends text text []
 appends_nothing None = tt
 appends_nothing (Some text) = sym (append-nil text)
 
--- a beginning of the second part was put after the first one
+-- if a text and then a prefix of a second one were written, a prefix of both together was
 pub begins_after : (a b c : Option (List ℕ)) (first second : List ℕ) → Appends a b first → AppendsBeginning b c second
     → AppendsBeginning a c (first ++ second)
 begins_after a b c first second h k =
     let whole = ap (λ (t : List ℕ). first ++ t) k.2 ∙ sym (append_assoc first k.0 k.1) in
     (first ++ k.0, k.1, whole, Appends-Appends a b c first k.0 h k.3)
 
--- a beginning of the first part is one of the whole
+-- a prefix of the first part is a prefix of the whole
 pub begins_whole : (a b : Option (List ℕ)) (first second : List ℕ) → AppendsBeginning a b first
     → AppendsBeginning a b (first ++ second)
 begins_whole a b first second k =
     (k.0, k.1 ++ second, ap (λ (t : List ℕ). t ++ second) k.2 ∙ append_assoc k.0 k.1 second, k.3)
 
--- ---- the last ones
+-- ---- the last steps
 
 take_less : {X : Type 0} (n : ℕ) (xs : List X) → take n (take (suc n) xs) ≡ take n xs
 take_less zero xs = refl
@@ -60,9 +60,9 @@ take_less {X = X} (suc n) (x ∷ xs) = ap (λ (t : List X). x ∷ t) (take_less 
 take_again : {X : Type 0} (n : ℕ) (x : X) (xs : List X) → take (suc n) (x ∷ take (suc n) xs) ≡ take (suc n) (x ∷ xs)
 take_again {X = X} n x xs = ap (λ (t : List X). x ∷ t) (take_less n xs)
 
--- ---- how far they have come
+-- ---- how far the steps have come
 
--- these steps were made, the latest first, which yielded this; none but the latest may have changed the word that is watched
+-- these steps were made, listed latest first; the latest yielded this result, and no other step changed the watched word
 pub record Going (limit count : ℕ) (stops : Stops) (m m' : Machine) (old new : Devices) (turn : Turn) (taken : List TracedStep)
     : Type 0 where
   pub steps : Follow m old taken m' new
@@ -72,7 +72,7 @@ pub record Going (limit count : ℕ) (stops : Stops) (m m' : Machine) (old new :
   pub long : count ≡ length taken
   pub within : count ≤ limit
 
--- the lines of some steps were put, and the last of them are kept
+-- the lines of these steps were written, and the last 16 steps are recorded
 pub record Shown (symbols : List Symbol) (first : ℕ) (taken : List TracedStep) (recent : List Shot) (output output' : Output) : Type 0 where
   pub kept : recent ≡ take 16 (map kept taken)
   pub text : Appends output.text output'.text (lines_from symbols first taken)
@@ -96,7 +96,7 @@ made before turn later = record { before = before; turn = turn; later = later }
 
 module _ (limit count : ℕ) (stops : Stops) (m m' : Machine) (old middle : Devices) (taken : List TracedStep)
     (g : Going limit count stops m m' old middle Next taken) (quiet : AllByRecursion (IsNoChange stops) taken) where
-  -- one more step
+  -- if one more step is made before the limit, and not at a breakpoint that stops the run, it is the latest of the steps
   pub one_made : (m'' : Machine) (new : Devices) (turn : Turn) → count < limit → is_at stops taken m' ≡ false
       → Does (step m') middle new (turn, m'')
       → Going limit (count + 1) stops m m'' old new turn (made m' turn m'' ∷ taken)
@@ -109,7 +109,7 @@ module _ (limit count : ℕ) (stops : Stops) (m m' : Machine) (old middle : Devi
     within = omega arith;
   }
 
-  -- no more are allowed
+  -- if the limit is reached, the steps end with `Limit`
   pub at_limit : limit ≤ count → Goes (λ n. run_counted n m) limit stops m old taken (ending.Stopped Limit) m' middle
   at_limit le =
       let same : length taken ≡ limit = omega (arith, g.long, g.within) in
@@ -131,7 +131,7 @@ module _ (limit count : ℕ) (stops : Stops) (m m' : Machine) (old middle : Devi
     runs = runs_out taken m m' old middle g.steps g.yielded;
   }
 
--- the latest step changed the word that is watched
+-- if the latest step changed the watched word, the steps end with `Changed`
 pub at_change : (limit count : ℕ) (stops : Stops) (m m' : Machine) (old new : Devices) (latest : TracedStep) (earlier : List TracedStep)
     → Going limit count stops m m' old new Next (latest ∷ earlier) → is_change stops latest ≡ true
     → Goes (λ n. run_counted n m) limit stops m old (latest ∷ earlier) ending.Changed m' new
@@ -143,7 +143,7 @@ at_change limit count stops m m' old new latest earlier g changed = record {
   runs = runs_out (latest ∷ earlier) m m' old new g.steps g.yielded;
 }
 
--- a step that stopped the run by itself doesn't count as a change
+-- a step that stopped the machine doesn't count as a change of the watched word
 stopped_quiet : (stops : Stops) (stop : Stop) (taken : List TracedStep) → Yielded (Stopped stop) taken
     → AllByRecursion (IsNoChange stops) (drop 1 taken) → AllByRecursion (IsNoChange stops) taken
 stopped_quiet stops stop [] by h = tt
@@ -160,7 +160,8 @@ at_stop limit count stops m m' old new stop taken g = record {
   runs = runs_stop limit stop taken m m' old new (omega (arith, g.long, g.within)) g.steps g.yielded;
 }
 
--- a step after which the machine goes on, depending on whether it changed the word that is watched
+-- if the machine goes on after the latest step, the steps are those of a traced run with this limit or a lower one, whether or not the
+-- watched word changed
 at_next : (limit count : ℕ) (stops : Stops) (m m' : Machine) (old new : Devices) (latest : TracedStep) (earlier : List TracedStep)
     → Going limit count stops m m' old new Next (latest ∷ earlier) → (changed : Bool) → is_change stops latest ≡ changed
     → (most : ℕ) × (most ≤ limit) × (e : Ending) × Goes (λ n. run_counted n m) most stops m old (latest ∷ earlier) e m' new
@@ -182,7 +183,7 @@ at_next limit count stops m m' old new latest earlier g false is =
       at_limit (length all) count stops m m' old new all at (is, g.unchanged) (omega (arith, g.long)),
     )
 
--- whatever the last step yielded, they are those of a run of as many steps
+-- whatever the latest step yielded, the steps are those of a traced run with this limit or a lower one
 pub at_any : (limit count : ℕ) (stops : Stops) (m m' : Machine) (old new : Devices) (turn : Turn) (latest : TracedStep) (earlier : List TracedStep)
     → Going limit count stops m m' old new turn (latest ∷ earlier)
     → (most : ℕ) × (most ≤ limit) × (e : Ending) × Goes (λ n. run_counted n m) most stops m old (latest ∷ earlier) e m' new
@@ -191,7 +192,7 @@ at_any limit count stops m m' old new Next latest earlier g =
 at_any limit count stops m m' old new (Stopped stop) latest earlier g =
     (limit, omega arith, ending.Stopped stop, at_stop limit count stops m m' old new stop (latest ∷ earlier) g)
 
--- a step before and after which these words are watched
+-- the watched word has these values before and after a step
 module _ (stops : Stops) (m m' : Machine) (memory memory' : List ℕ) (before later : ℕ) (is : memory ≡ m.memory) (is' : memory' ≡ m'.memory)
     (word : before ≡ watched_word stops memory) (word' : later ≡ watched_word stops memory') where
   words_are : (before == later) ≡ (watched_word stops m.memory == watched_word stops m'.memory)
@@ -203,7 +204,7 @@ module _ (stops : Stops) (m m' : Machine) (memory memory' : List ℕ) (before la
   pub is_changed : (later ≡ before → ⊥) → is_change stops (made m Next m') ≡ true
   is_changed other = ap not (sym words_are ∙ ne_eqb _ _ (λ same. other (sym same)))
 
--- ---- with their lines
+-- ---- steps with their lines
 
 module _ (symbols : List Symbol) (first : ℕ) (taken : List TracedStep) (recent : List Shot) (output middle : Output) (s : Shown symbols first taken recent output middle) where
   line_of : (m m'' : Machine) (turn : Turn) (count : ℕ) (line : List ℕ) → count ≡ length taken
@@ -243,7 +244,7 @@ module _ (symbols : List Symbol) (first : ℕ) (taken : List TracedStep) (recent
         subst Q s.faults faults,
       )
 
--- the line of a step was not put
+-- if the line of a step can't be written whole, the steps end with that fault
 pub not_put : (limit count : ℕ) (symbols : List Symbol) (first : ℕ) (stops : Stops) (m m' m'' : Machine) (old middle new : Devices) (taken : List TracedStep)
     (recent : List Shot) (output held output' : Output) (turn : Turn) (line : List ℕ) (fault : SimFault)
     → Going limit count stops m m' old middle Next taken → AllByRecursion (IsNoChange stops) taken

@@ -1,4 +1,4 @@
--- Parts of memory that are put word by word.
+-- Memory ranges that are written word by word.
 use Rattle.std.proofs.Common.{◌≡◌, ◌∙◌, ℕ, suc, ◌+◌, ◌-◌, ◌*◌, ◌<◌, ◌≤◌, List, [], ◌∷◌, ◌++◌, length, take, drop, get_or, append-nil, append_assoc, Option, Some, None, Ok, Err, refl, sym, subst, ap, arith}
 use Rattle.std.proofs.lemmas.List.{take_all}
 use Rattle.std.specs.Io.KnownBytes.{Appends}
@@ -13,7 +13,7 @@ use Rattle.m11_trace.specs.Shots.{word_past}
 use Rattle.m11_trace.specs.declared.ranges.Range.{Range}
 use Rattle.m11_trace.proofs.Going.{appends_nothing, begins_after, begins_whole}
 
--- the words before an index were put
+-- the words of a range before an index were written
 pub record Putting (memory : List ℕ) (first index count : ℕ) (a b : Option (List ℕ)) (f g : ℕ) : Type 0 where
   pub shown : List ℕ
   pub put : Appends a b shown
@@ -36,7 +36,7 @@ module _ (memory : List ℕ) (first index count : ℕ) (a b : Option (List ℕ))
       let to : Option ℕ → List ℕ = λ o. before_rest first index o (words_from memory first (index + 1) (count - (index + 1))) in
       ap (words_from memory first index) left ∙ ap to (sym is)
 
-  -- one more word
+  -- the words before the next index were written if the word at this index was
   pub one_put : (c : Option (List ℕ)) (h word : ℕ) → index < count → Some word ≡ word_past memory first (2 * index)
       → Appends b c (word_cell first index word) → h ≡ g → Putting memory first (index + 1) count a c f h
   one_put c h word lt is put sound =
@@ -59,7 +59,7 @@ module _ (memory : List ℕ) (first index count : ℕ) (a b : Option (List ℕ))
   pub all_put : count ≤ index → PutsMessages {A = Unit {0}} a b f g (words_from memory first 0 count) (Ok tt)
   all_put le = let none : count - index ≡ 0 = omega arith in none_left (ap (words_from memory first index) none)
 
-  -- the memory ends
+  -- if the memory ends before the word at an index, the whole text of the range was written
   pub memory_ends : index < count → None ≡ word_past memory first (2 * index)
       → PutsMessages {A = Unit {0}} a b f g (words_from memory first 0 count) (Ok tt)
   memory_ends lt is = none_left (left_is lt None is)
@@ -77,7 +77,7 @@ module _ (memory : List ℕ) (first index count : ℕ) (a b : Option (List ℕ))
   word_failed c h word NoMemory lt is put = absurd put
   word_failed c h word (Load fault) lt is put = absurd put
 
--- a part, and then the others
+-- the text of all ranges is that of the first range and then that of the others
 pub first_first : (memory : List ℕ) (ranges : List Range) (d : Range) → 1 ≤ length ranges
     → range_text memory (get_or ranges 0 d) ++ ranges_text memory (take (length ranges - 1) (drop 1 ranges))
     ≡ ranges_text memory ranges

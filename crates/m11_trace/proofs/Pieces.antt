@@ -1,7 +1,7 @@
--- Pieces of text that are put one after another.
+-- Pieces of text that are added one after another.
 use Rattle.std.proofs.Common.{◌≡◌, ◌∙◌, ℕ, List, ◌++◌, append_assoc, ap}
 
--- two more pieces, the second of them all that follows
+-- if pieces are added one after another, the text ends with all of them in order
 pub two_put : (first a b one two : List ℕ) → one ≡ first ++ a → two ≡ one ++ b → two ≡ first ++ (a ++ b)
 two_put first a b one two e1 e2 = e2 ∙ ap (λ (t : List ℕ). t ++ b) e1 ∙ append_assoc first a b
 

@@ -9,7 +9,7 @@ use Rattle.m11_trace.specs.Taken.{TracedStep}
 use Rattle.m11_trace.specs.declared.stops.Breakpoint.{Breakpoint}
 use Rattle.m11_trace.specs.declared.stops.Stops.{Stops}
 
--- a breakpoint after some steps
+-- a breakpoint after these steps: its count is lowered by the number of steps that began at its address
 abbrev pub left_of : List TracedStep → Breakpoint → Breakpoint
 left_of taken breakpoint = record breakpoint { count = breakpoint.count - times_at breakpoint.address taken }
 
@@ -19,7 +19,7 @@ none_counted (breakpoint ∷ breakpoints) =
     let whole : breakpoint.count ≡ breakpoint.count - 0 = omega arith in
     ap₂ (λ (n : ℕ) (bs : List Breakpoint). record breakpoint { count = n } ∷ bs) whole (none_counted breakpoints)
 
--- a count of which one time is left
+-- one time remains of a count if and only if the count is one more than the times so far
 one_left : (count times : ℕ) (last : Bool) → eqb (times + 1) count ≡ last → eqb (count - times) 1 ≡ last
 one_left count times true is =
     let whole = eqb-true (times + 1) count is in
@@ -28,7 +28,7 @@ one_left count times false is =
     let other = eqb-false (times + 1) count is in
     ne_eqb (count - times) 1 (λ e. other (omega (arith, e)))
 
--- the breakpoints that are left stop the run where the breakpoints themselves do
+-- the waiting breakpoints stop the run exactly where the definition says that the breakpoints do
 pub due_is : (taken : List TracedStep) (m : Machine) (breakpoints : List Breakpoint)
     → list_any (is_last_at (counter_of m)) (map (left_of taken) breakpoints) ≡ list_any (is_due taken m) breakpoints
 due_is taken m [] = refl
@@ -37,7 +37,7 @@ due_is taken m (breakpoint ∷ breakpoints) =
     let here : Bool → Bool = λ last. eqb breakpoint.address (counter_of m) && last in
     ap₂ (λ (x y : Bool). here x || y) (one_left breakpoint.count times (eqb (times + 1) breakpoint.count) refl) (due_is taken m breakpoints)
 
--- one more step was made
+-- after one more step, a waiting breakpoint is the one counted down at the step's address
 one_less : (step : TracedStep) (earlier : List TracedStep) (breakpoint : Breakpoint) (here : Bool)
     → eqb breakpoint.address (counter_of step.before) ≡ here
     → counted_at (counter_of step.before) (left_of earlier breakpoint) ≡ left_of (step ∷ earlier) breakpoint
@@ -55,17 +55,17 @@ one_counted step earlier (breakpoint ∷ breakpoints) =
     ap₂ (λ (b : Breakpoint) (bs : List Breakpoint). b ∷ bs)
     (one_less step earlier breakpoint (eqb breakpoint.address (counter_of step.before)) refl) (one_counted step earlier breakpoints)
 
--- the breakpoints that are left after some steps, under whichever names
+-- `waiting` holds the breakpoints as they wait after some steps
 module _ (earlier : List TracedStep) (stops : Stops) (waiting : List Breakpoint)
     (left : waiting ≡ map (left_of earlier) stops.breakpoints.items) (address : ℕ) where
-  -- whether one of them stops the run
+  -- whether a waiting breakpoint is due is whether the run stops here
   pub stops_at : (m : Machine) (due test : Bool) → address ≡ counter_of m → due ≡ list_any (is_last_at address) waiting → due ≡ test
       → is_at stops earlier m ≡ test
   stops_at m due test is here tested =
       let to : ℕ → List Breakpoint → Bool = λ n bs. list_any (is_last_at n) bs in
       sym (due_is earlier m stops.breakpoints.items) ∙ sym (here ∙ ap₂ to is left) ∙ tested
 
-  -- they are counted down
+  -- after one more step, the waiting breakpoints are those counted down at its address
   pub counts_on : (step : TracedStep) (later : List Breakpoint) → address ≡ counter_of step.before
       → later ≡ map (counted_at address) waiting → later ≡ map (left_of (step ∷ earlier)) stops.breakpoints.items
   counts_on step later is counted =

@@ -44,7 +44,7 @@ does_started address most m old new y odd e h =
     Does (cond b (Comes (record { stop = NoStart; steps = 0 }, m)) (run_counted most (with_register Pc address m))) old new y in
     subst P (sym e) h
 
--- an odd address starts nothing
+-- if the address is odd, no step is made and the run ends with `NoStart`
 pub nothing_started : (address limit : ℕ) (symbols : List Symbol) (first : ℕ) (stops : Stops) (m : Machine) (d : Devices) (output : Output) (steps : Steps)
     → (address % 2 == 1) ≡ true → steps.ending ≡ Stopped NoStart → steps.count ≡ 0 → steps.recent.items ≡ []
     → StepsWithLines (λ most. started address most m) limit symbols first stops (begun address m) m d d output output (Ok steps)
@@ -76,7 +76,7 @@ module _ (address limit : ℕ) (stops : Stops) (m m' : Machine) (old new : Devic
         runs = does_started address (limit_by ending (length taken) most) m old new (ran_by ending (length taken), m') false even g.runs;
       }
 
-  -- an even one starts steps there
+  -- if the address is even, the steps begin there
   pub steps_started : (symbols : List Symbol) (first : ℕ) (start : Machine) (output output' : Output) (result : Result Steps SimFault)
       → start ≡ with_register Pc address m
       → StepsWithLines (λ n. run_counted n start) limit symbols first stops start m' old new output output' result
@@ -121,7 +121,7 @@ module _ (request : Request) (symbols : List Symbol) (first : ℕ) (stops : Stop
         ends = g.ends;
       }
 
-  -- a line could not be written
+  -- if a trace line can't be written, the run ends with that fault
   pub line_failed : (fault : SimFault)
       → StepsWithLines (λ n. started address n loaded) request.limit symbols first stops (begun address loaded) m before.console
       after.console before.messages after.messages (Err fault)
@@ -149,7 +149,7 @@ module _ (request : Request) (symbols : List Symbol) (first : ℕ) (stops : Stop
         let to : ℕ → List ℕ = λ n. ending_text steps.ending n m ++ ranges_text m.memory ranges in
         ap₂ (λ (x y : List ℕ). x ++ y) (recent_are symbols first steps.count h.0 steps.recent.items h.2 h.3) (ap to h.2)
 
-    -- all of the report was written
+    -- if the end of the report is written whole, so is the whole report
     pub all_reported : PutsMessages {A = Unit {0}} middle.text after.messages.text middle.faults after.messages.faults
         (end_text symbols first steps ranges m) (Ok tt) → Traces request symbols first stops ranges before after (Ok steps.ending)
     all_reported p =
@@ -161,7 +161,7 @@ module _ (request : Request) (symbols : List Symbol) (first : ℕ) (stops : Stop
           p.1 ∙ h.5,
         )
 
-    -- a beginning of it was
+    -- if only a prefix of the end of the report is written, the run ends with the fault
     pub end_failed : (fault : SimFault) → PutsMessages {A = Unit {0}} middle.text after.messages.text middle.faults
         after.messages.faults (end_text symbols first steps ranges m) (Err fault) → Traces request symbols first stops ranges before after (Err fault)
     end_failed Write p =

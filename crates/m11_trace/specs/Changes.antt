@@ -22,20 +22,20 @@ changed_among count before later = filter (has_changed before later) (even_addre
 abbrev pub word_text : ℕ → ℕ → Bytes
 word_text address word = (codes "\t@#" ++ octal_text address) ++ (codes " " ++ octal_text word)
 
--- the fields of the words that changed, of those at the first `count` even addresses
+-- the fields of the words that changed at the first `count` even addresses, in order of address
 unfoldable pub changes_among : ℕ → Bytes → Bytes → Bytes
 changes_among count before later =
     flat_map (λ address. word_text address (word_at later address)) (changed_among count before later)
 
--- the addresses of the memory words that a step changed, below those of the devices
+-- the addresses, in order and below those of the devices, of the memory words that a step changed
 abbrev pub changed_addresses : Bytes → Bytes → List ℕ
 changed_addresses before later = changed_among most_words before later
 
--- the fields of the memory words that a step changed, in order of address
+-- the fields of the memory words that a step changed below the addresses of the devices, in order of address
 abbrev pub memory_changes : Bytes → Bytes → Bytes
 memory_changes before later = changes_among most_words before later
 
--- the step changed the memory word at this even address, below those of the devices
+-- the step changed the memory word at this address, which is even and below the addresses of the devices
 abbrev pub HasAnotherWord : Bytes → Bytes → ℕ → Type 0
 HasAnotherWord before later address =
     (address % 2 ≡ 0) × (address < 2 * most_words) × (word_at before address ≢ word_at later address)
@@ -44,7 +44,7 @@ HasAnotherWord before later address =
 abbrev pub HaveSameWords : Bytes → Bytes → Type 0
 HaveSameWords memory other = (index : ℕ) → index < most_words → word_at memory (2 * index) ≡ word_at other (2 * index)
 
--- the words of a copy equal those of a memory, from one index up to another, which isn't included
+-- the words of a copy equal those of a memory, from the index `from` up to but not including the index `to`
 abbrev pub AreAlike : List ℕ → Bytes → ℕ → ℕ → Type 0
 AreAlike words memory from to =
     (index : ℕ) → from ≤ index → index < to → slice_index words index ≡ word_at memory (2 * index)

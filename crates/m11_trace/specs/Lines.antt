@@ -14,20 +14,21 @@ use Rattle.m11_trace.specs.Shots.{numbered, shot_of, words_in}
 use Rattle.m11_trace.specs.declared.shots.Shot.{Shot}
 use Rattle.m11_base_disassembly.specs.declared.symbols.Symbol.{Symbol}
 
--- an address in octal, and after a blank its name, if these symbols give it one
+-- an address in octal, and after a blank its name: the nearest of these symbols at or below it, with the distance from that symbol; no
+-- name if there is no such symbol
 abbrev pub place_text : List Symbol → ℕ → Bytes
 place_text symbols address = octal_text address ++ address_name (codes " ") symbols address
 
--- the line of source of the instruction with these words at this location; empty if there are none
+-- the line of source of the instruction with these words at this location; empty if there are no words
 abbrev pub source_text : ℕ → List ℕ → Bytes
 source_text location [] = []
 source_text location (word ∷ more) = statement_text (statement_of location word more)
 
--- the field of a register if its value changed
+-- the field of a register if its value changed; otherwise nothing
 abbrev pub register_change : Bytes → ℕ → ℕ → Bytes
 register_change name before later = if before == later then [] else 9 ∷ (name ++ octal_text later)
 
--- the fields of the registers whose values changed, except the program counter, which begins the next line
+-- the fields of the registers whose values changed, except the program counter, which the next line shows
 unfoldable pub register_changes : List ℕ → List ℕ → Bytes
 register_changes before later =
     register_change (codes "R0 ") (numbered before 0) (numbered later 0)
@@ -46,7 +47,7 @@ code_letter psw weight letter = if psw / weight % 2 == 1 then letter else 45
 abbrev pub code_letters : ℕ → Bytes
 code_letters psw = code_letter psw 8 78 ∷ code_letter psw 4 90 ∷ code_letter psw 2 86 ∷ code_letter psw 1 67 ∷ []
 
--- the field of the processor status word, with the letters of its condition codes, if it changed
+-- the field of the processor status word, with the letters of its condition codes, if the word changed; otherwise nothing
 abbrev pub status_change : ℕ → ℕ → Bytes
 status_change before later =
     if before == later then [] else codes "\tPSW " ++ (octal_text later ++ 32 ∷ code_letters later)

@@ -1,5 +1,5 @@
--- The two lines at the end of a traced run. They are those of an untraced run, with the keyword REACHED or CHANGED if the traced run
--- stopped by itself. (This project's own.)
+-- The two lines at the end of a traced run. They are those of an untraced run, with the keyword REACHED if the run stopped at a
+-- breakpoint, or CHANGED if it stopped at a change of the watched word. (This project's own.)
 use Rattle.std.specs.Prelude.{ℕ, codes}
 use Rattle.m11_base.specs.Devices.{Bytes}
 use Rattle.m11_cpu.specs.Messages.{end_text}

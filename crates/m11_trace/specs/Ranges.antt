@@ -20,7 +20,7 @@ abbrev pub before_rest : ℕ → ℕ → Option ℕ → Bytes → Bytes
 before_rest first index None rest = []
 before_rest first index (Some word) rest = word_cell first index word ++ rest
 
--- the words of a range from this index on, as many as are left, up to the end of the memory
+-- the text of `left` words of a range, beginning with the word at this index, or of fewer if the memory ends before the last one
 abbrev pub words_from : Bytes → ℕ → ℕ → ℕ → Bytes
 words_from memory first index zero = []
 words_from memory first index (suc left) =

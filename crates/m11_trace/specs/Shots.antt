@@ -21,7 +21,8 @@ abbrev pub word_past : Bytes → ℕ → ℕ → Option ℕ
 word_past memory location distance =
     if nat_lt (location + distance) (length memory) then Some (word_at memory (location + distance)) else None
 
--- the three words from this location on, the most that an instruction has; none at an odd location
+-- the word at this location and the two after it, since an instruction has at most three; each is None if it lies past the end of
+-- memory, and all are None at an odd location
 abbrev pub fetched_at : Bytes → ℕ → InstructionWords
 fetched_at memory location =
     if location % 2 == 1 then record { first = None; second = None; third = None }

@@ -36,7 +36,8 @@ StepsWithLines run limit symbols first stops m m' old new output output' (Err (L
 abbrev pub stop_text : Steps → List Range → Machine → Bytes
 stop_text steps ranges m = ending_text steps.ending steps.count m ++ ranges_text m.memory ranges
 
--- what is written after the trace lines: the lines of the last 16 steps if no line was written, the ending and the memory ranges
+-- what is written after the trace lines: the lines of the last 16 steps, without memory words, if no line was written; then the ending
+-- and the memory ranges
 abbrev pub end_text : List Symbol → ℕ → Steps → List Range → Machine → Bytes
 end_text symbols first steps ranges m =
     (if nat_lt steps.count first then shots_text symbols steps.count steps.recent.items else []) ++ stop_text steps ranges m

@@ -34,7 +34,7 @@ AreElsewhere stops (taken ∷ earlier) = (is_at stops earlier taken.before ≡ f
 
 -- ---- waiting breakpoints, each with the number of times that it must still be reached to stop the run
 
--- whether a breakpoint stops the run at this address now: the address is the breakpoint's own, and one time remains
+-- whether a breakpoint stops the run at this address now: the address is the breakpoint's own, and its count is down to 1
 abbrev pub is_last_at : ℕ → Breakpoint → Bool
 is_last_at address breakpoint = breakpoint.address == address && breakpoint.count == 1
 
@@ -50,7 +50,7 @@ abbrev pub watched_at : Option ℕ → Bytes → ℕ
 watched_at (Some address) memory = word_at memory (even_of address)
 watched_at None memory = 0
 
--- the word that contains the watched address; 0 if none is watched, or if it lies past the end of memory
+-- the word that contains the watched address; 0 if no address is watched, or if the word lies past the end of memory
 abbrev pub watched_word : Stops → Bytes → ℕ
 watched_word stops memory = watched_at stops.watched memory
 

@@ -24,14 +24,14 @@ abbrev pub Yielded : Turn → List TracedStep → Type 0
 Yielded turn [] = turn ≡ Next
 Yielded turn (taken ∷ earlier) = taken.turn ≡ turn
 
--- steps that lead from one machine and the devices before to another machine and the devices after, listed latest first; the result of
--- each but the latest was `Next`
+-- these steps, listed latest first, lead from one machine and the devices before to another machine and the devices after; the result
+-- of each but the latest was `Next`
 abbrev pub Follow : Machine → Devices → List TracedStep → Machine → Devices → Type 0
 Follow m old [] m' new = (m' ≡ m) × (new ≡ old)
 Follow m old (taken ∷ earlier) m' new = (middle : Devices) × Follow m old earlier taken.before middle × Yielded Next earlier
     × Does (step taken.before) middle new (taken.turn, taken.later) × (m' ≡ taken.later)
 
--- the machine before the first step, with its program counter at this address; unchanged if that is odd
+-- the machine before the first step, with its program counter at this address; unchanged if the address is odd
 abbrev pub begun : ℕ → Machine → Machine
 begun address m = if address % 2 == 1 then m else with_register Pc address m
 

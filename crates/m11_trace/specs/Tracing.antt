@@ -1,5 +1,5 @@
--- A whole traced run: a tape is loaded and run as without tracing, up to where the traced run stops by itself, and the trace lines and
--- the ending are reported. (This project's own.)
+-- A whole traced run: a tape is loaded and run as without tracing, but at most up to a breakpoint or a change of the watched word, and
+-- the trace lines and the ending are reported. (This project's own.)
 use Rattle.std.specs.Prelude.{◌≡◌, ℕ, suc, ◌<◌, ◌≤◌, true, List, [], ◌∷◌, ◌++◌, drop, length, unwrap_or, Result, Ok, Err, ⊤}
 use Rattle.std.specs.List.{AllByRecursion}
 use Rattle.std.specs.Io.KnownBytes.{Appends}
@@ -22,14 +22,14 @@ use Rattle.m11_trace.specs.declared.ranges.Range.{Range}
 use Rattle.m11_trace.specs.declared.stops.Stops.{Stops}
 use Rattle.m11_base_disassembly.specs.declared.symbols.Symbol.{Symbol}
 
--- the outcome of the same run without tracing; if the traced run stopped by itself, the untraced one stops at its limit after the steps
--- that were made
+-- the outcome of the same run without tracing; if a breakpoint or the watched word stopped the traced run, the untraced one stops at
+-- its limit after as many steps
 abbrev pub ran_by : Ending → ℕ → Ran
 ran_by (Stopped stop) steps = record { stop = stop; steps = steps }
 ran_by Reached steps = record { stop = Limit; steps = steps }
 ran_by Changed steps = record { stop = Limit; steps = steps }
 
--- the limit of the same run without tracing; if the traced run stopped by itself, the number of the steps that were made
+-- the limit of the same run without tracing; if a breakpoint or the watched word stopped the traced run, this is the number of steps made
 abbrev pub limit_by : Ending → ℕ → ℕ → ℕ
 limit_by (Stopped stop) steps limit = limit
 limit_by Reached steps limit = steps
@@ -43,7 +43,7 @@ EndsAt Reached stops taken limit m = (length taken < limit) × (is_at stops take
 EndsAt Changed stops [] limit m = ⊥
 EndsAt Changed stops (latest ∷ earlier) limit m = (suc (length earlier) ≤ limit) × (is_change stops latest ≡ true)
 
--- the steps that must not have changed the watched word: all of them, or all but the latest if that ended the run by changing it
+-- the steps that must not have changed the watched word: all of them, or all but the latest if that step ended the run by changing it
 abbrev pub without_change : Ending → List TracedStep → List TracedStep
 without_change (Stopped stop) taken = taken
 without_change Reached taken = taken

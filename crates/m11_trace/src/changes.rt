@@ -46,7 +46,7 @@ fn word_text(address: u16, word: u16) -> Line
     text
 }
 
-// Whether the eight words from this index on equal those of the memory. Also false if the memory doesn't have all eight.
+// Whether the eight words that begin at this index equal those of the memory. Also false if the memory doesn't have all eight.
 // speed: with words compared one at a time, a line takes six times as long.
 #[inline(always)]
 fn are_alike(words: &[u16], memory: &Memory, index: usize) -> bool

@@ -10,7 +10,8 @@ use crate::shots::{InstructionWords, Shot};
 use itoa::Buffer;
 use m11_base_disassembly::{Symbol, address_name, disassembled};
 
-// Adds an address in octal, and after a blank its name, if these symbols give it one.
+// Adds an address in octal, and after a blank its name: the nearest of these symbols at or below it, with the distance from that
+// symbol; no name if there is no such symbol.
 fn add_place(line: &mut Line, symbols: &[Symbol], address: u16)
     requires { array_vec_len line.old ≤ 154 }
     ensures items { line.new.items ≡ line.old.items ++ spec.place_text symbols.now address }
@@ -61,7 +62,7 @@ fn add_change(line: &mut Line, name: &[u8; 3], before: u16, later: u16)
     }
 }
 
-// Adds the registers whose values changed, except the program counter, which begins the next line.
+// Adds the registers whose values changed, except the program counter, which the next line shows.
 fn add_registers(line: &mut Line, before: &[u16; 8], later: &[u16; 8])
     requires { array_vec_len line.old ≤ 116 }
     ensures items { line.new.items ≡ line.old.items ++ spec.register_changes before.now later.now }
@@ -107,7 +108,7 @@ fn code_letters(psw: u16) -> [u8; 4]
     ]
 }
 
-// Adds the processor status word, with the letters of its condition codes, if it changed.
+// Adds the processor status word, with the letters of its condition codes, if the word changed.
 fn add_status(line: &mut Line, before: u16, later: u16)
     requires { array_vec_len line.old ≤ 174 }
     ensures items { line.new.items ≡ line.old.items ++ spec.status_change before later }

@@ -1,4 +1,4 @@
-//! The report at the end of a traced run. It allocates no memory.
+//! The report at the end of a traced run. No memory is allocated for it.
 
 ghost use Rattle.std.specs.Prelude.{◌≡◌, ◌≤◌, length};
 ghost use Rattle.m11_cpu.specs.Messages.{PutsMessages};

@@ -34,7 +34,7 @@ fn word_cell(first: u16, index: u16, word: u16) -> Line
     cell
 }
 
-// Writes `count` words from an even address on, or fewer if the memory ends before the last of them.
+// Writes `count` words, beginning at the even address `first`, or fewer if the memory ends before the last one.
 fn put_words<M: Sink>(
     messages: &mut M,
     memory: &Memory,

@@ -5,8 +5,8 @@ ghost use Rattle.m11_trace.specs.Shots as spec;
 
 use m11_cpu::{Machine, Memory};
 
-/// The three words from the program counter on, the most that an instruction has. A word outside memory is `None`, and so are all three
-/// if the program counter is odd.
+/// The word at the program counter and the two after it, since an instruction has at most three. Each is None if it lies past the end
+/// of memory, and all are None if the program counter is odd.
 #[derive(Clone, Copy, Debug, Default)]
 pub struct InstructionWords {
     /// The word at the program counter.
@@ -49,7 +49,8 @@ pub(crate) fn word_past(memory: &Memory, location: u16, distance: u16) -> Option
     }
 }
 
-/// The three words from this location on, the most that an instruction has; none at an odd location.
+/// The word at this location and the two after it, since an instruction has at most three. Each is None if it lies past the end of
+/// memory, and all are None at an odd location.
 pub(crate) fn fetched_at(memory: &Memory, location: u16) -> InstructionWords
     ensures { result ≡ spec.fetched_at memory.now location }
 {

@@ -64,7 +64,7 @@ fn ready(first: u32, count: u32, before: &mut [u16], memory: &Memory)
     }
 }
 
-// Writes the part of a step's trace line from the memory words on, and updates their copy in `before`.
+// Writes the memory words that a step changed and the end of its trace line, and updates the copy of the memory in `before`.
 fn put_rest<M: Sink>(
     messages: &mut M,
     shot: &Shot,
@@ -123,8 +123,9 @@ fn put_line_from<M: Sink>(
 }
 
 /// Makes at most `limit` steps, up to a stop of the machine or one of `stops`, and writes a trace line for each step whose number is
-/// `first` or more, with names from `symbols`. `before` has room for a copy of the memory, which is kept for the steps that have a line.
-/// `waiting` has the breakpoints, whose counts are lowered as the program counter reaches them. Allocates no memory.
+/// `first` or more, with names from `symbols`. `before` has room for a copy of the memory, which is made before the first step that has
+/// a line and updated with each line. `waiting` has the breakpoints, whose counts are lowered as the program counter reaches them.
+/// Allocates no memory.
 ///
 /// Error: `Write`, if a line couldn't be written whole. No step is made after that.
 pub(crate) fn steps_with_lines<I: Feed, O: Sink, M: Sink>(

@@ -65,7 +65,7 @@ pub(crate) fn count_down(waiting: &mut [Breakpoint], address: u16)
     }
 }
 
-/// The watched word; 0 if none is watched, or if it lies past the end of memory.
+/// The watched word; 0 if no word is watched, or if the word lies past the end of memory.
 pub(crate) fn watched_word(stops: &Stops, memory: &Memory) -> u16
     ensures { result ≡ spec.watched_word stops.now memory.now }
 {

@@ -25,7 +25,8 @@ use std::alloc::Global;
 /// tape's transfer address if `start` is None. An odd address makes no step and ends the run with `NoStart`. The machine, the console's
 /// input and output and the stop are the same as those of `m11_cpu::sim_run` with the same number of words. The run also stops before a
 /// step, if a step is left to make and the program counter has reached the address of a breakpoint as often as its count says, and after
-/// a step that changes the watched word. Machine and console are then as after `m11_cpu::sim_run` with that many steps as its limit.
+/// a step that changes the watched word. The machine and the console are then as after `m11_cpu::sim_run` with the number of steps made
+/// as its limit.
 ///
 /// The trace line of each step whose number is `first` or more is written to `messages` as soon as the step is made. It also shows the
 /// step's address as an offset from the nearest of `symbols` at or below it, if there is one. If the run has fewer than `first` steps,
@@ -116,7 +117,8 @@ fn started<I: Feed, O: Sink, M: Sink>(
     )
 }
 
-// Writes what follows the trace lines: the last 16 steps if no line was written, the ending and the memory ranges.
+// Writes what follows the trace lines: the lines of the last 16 steps, without memory words, if no line was written; then the ending
+// and the memory ranges.
 fn put_end<M: Sink>(
     messages: &mut M,
     symbols: &[Symbol],

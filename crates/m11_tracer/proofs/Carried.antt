@@ -1,4 +1,4 @@
--- What a task yields.
+-- The outcome of a task.
 use Rattle.std.proofs.Common.{◌≡◌, ℕ, List, Option, Ok, inl, inr, subst}
 use Rattle.m11_base.specs.Feed as feed
 use Rattle.clap.specs.Words.{Text}
@@ -15,7 +15,7 @@ use Rattle.m11_tracer.specs.declared.outcome.Outcome.TheVariants.{Usage, NotOpen
 use Rattle.m11_tracer.specs.declared.task.TraceTask.{TraceTask}
 use Rattle.m11_cli_tasks.specs.declared.usage.UsageFault.{UsageFault}
 
--- a task that was carried out has no fault of its words
+-- the outcome of a task that is carried out isn't a fault of the command line
 no_usage_without : (fault : UsageFault) (none : NoNames) (old new : Store) (before after : Streams)
     → GoesWithout none (Usage fault) old new before after → ⊥
 no_usage_without fault (none.NotOpened path) old new before after h = let no : Usage fault ≡ NotOpened = h.4.0 in absurd cc
@@ -26,7 +26,7 @@ no_usage : {I : Type 0} (text : I → Option feed.Text) (faults : I → ℕ) (ta
 no_usage text faults task fault old new before after (inl named) = named.2
 no_usage text faults task fault old new before after (inr without) = no_usage_without fault without.0 old new before after without.2
 
--- a task goes on if names were found, and finding them changed no file
+-- if names were found, and finding them changed no file, the task is carried out with these names
 pub goes_on : {I : Type 0} (text : I → Option feed.Text) (faults : I → ℕ) (task : TraceTask) (symbols : List Symbol) (outcome : Outcome) (old middle new : Store) (before after : Streams)
     → Names text faults task.bottom old.files (texts task.names.items) symbols → middle ≡ old
     → CarriesNamed task symbols outcome middle new before after → Carries text faults task outcome old new before after
@@ -34,7 +34,7 @@ goes_on text faults task symbols outcome old middle new before after names same 
     let P : Store → Type 0 = λ s. CarriesNamed task symbols outcome s new before after in
     inl (symbols, names, subst P same h)
 
--- the outcome of a task that was carried out is one that the words yield
+-- the outcome of carrying out the task that a command line asks for is an outcome of the command line
 pub carried : {I : Type 0} (text : I → Option feed.Text) (faults : I → ℕ) (words : List Text) (task : TraceTask) (outcome : Outcome) (old new : Store) (before after : Streams)
     → Plans words (Ok task) → Carries text faults task outcome old new before after → HasOutcome text faults words outcome old new before after
 carried text faults words task (Usage fault) old new before after planned h = absurd (no_usage text faults task fault old new before after h)

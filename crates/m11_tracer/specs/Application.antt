@@ -9,7 +9,8 @@ use Rattle.m11_cli_tasks.specs.Commands.{bottom_rule, most_steps, option_rule, s
 abbrev pub from_rule : Rule
 from_rule = record (option_rule (codes "from") 0o146) { parser = Some (Signed (pos 0) (pos most_steps)) }
 
--- `-p OCTAL[:COUNT]`, `--place OCTAL[:COUNT]`: an address at which to stop, and how many times it must be reached for that
+-- `-p OCTAL[:COUNT]`, `--place OCTAL[:COUNT]`: an address at which to stop, and how many times the program counter must reach it for
+-- the run to stop
 abbrev pub breakpoint_rule : Rule
 breakpoint_rule = record (option_rule (codes "place") 0o160) { action = Some Append }
 

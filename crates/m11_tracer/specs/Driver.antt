@@ -37,12 +37,13 @@ abbrev pub RunsTape : TraceTask → List Symbol → Store → Store → Streams 
 RunsTape task symbols old new before after result = (tape : Input) × Holds old.files task.sim.tape.now tape.text
     × RunsOpen task symbols tape before after result × (new ≡ old)
 
--- a file can't be opened, and is reported
+-- the file at this path can't be opened, and that is reported
 abbrev pub RefusesFile : Bytes → Store → Store → OutputState → OutputState → Type 0
 RefusesFile path old new reported reported' = Lacks old.files path × Rises old.refusals new.refusals
     × (new.files ≡ old.files) × Reports (open_line path) reported reported'
 
--- the outcome of a task with these names of addresses: its tape can't be opened; or it is run; or memory is refused before that
+-- the outcome of a task with these symbols as the names of addresses: the tape can't be opened; or it is run; or memory is refused
+-- before the run
 abbrev pub CarriesNamed : TraceTask → List Symbol → Outcome → Store → Store → Streams → Streams → Type 0
 CarriesNamed task symbols NotOpened old new before after = (after.input ≡ before.input) × (after.printed ≡ before.printed)
     × RefusesFile task.sim.tape.now old new before.reported after.reported
@@ -63,7 +64,7 @@ abbrev pub GoesWithout : NoNames → Outcome → Store → Store → Streams →
 GoesWithout none outcome old new before after = (new.files ≡ old.files) × (after.input ≡ before.input) × (after.printed ≡ before.printed)
     × Counts {A = Unit {0}} old.refusals new.refusals (Err none) × RefusesNames none outcome before.reported after.reported
 
--- the outcome of a task: it goes on with the names in its files of names; or those give no names, and nothing is run
+-- the outcome of a task: it is carried out with the names in its files of names; or these files give no names, and nothing is run
 abbrev pub Carries : {I : Type 0} → (I → Option feed.Text) → (I → ℕ) → TraceTask → Outcome → Store → Store → Streams → Streams → Type 0
 Carries text faults task outcome old new before after =
     ((symbols : List Symbol) × Names text faults task.bottom old.files (texts task.names.items) symbols
@@ -71,8 +72,8 @@ Carries text faults task outcome old new before after =
     ⊎ ((none : NoNames) × NoneNamed text faults task.bottom old.files (texts task.names.items) none
     × GoesWithout none outcome old new before after)
 
--- the command line is refused, possibly with one of several faults, or asks for help: the parser's text for that, if it has one, is
--- written, and no file is opened; or the task that the command line asks for is carried out
+-- the command line is refused, with any one of its faults, or asks for help: the parser's text, if there is one, is written, and no
+-- file is opened; or the task that the command line asks for is carried out
 abbrev pub HasOutcome : {I : Type 0} → (I → Option feed.Text) → (I → ℕ) → List Text → Outcome → Store → Store → Streams → Streams → Type 0
 HasOutcome text faults words (Usage fault) old new before after = Plans words (Err fault) × (new ≡ old)
     × (after.input ≡ before.input) × Explains fault before.printed after.printed before.reported after.reported

@@ -1,6 +1,6 @@
--- The outcome of a command line, the line for its fault and its exit status, as for `m11 sim`. (This project's own: 0 halted, or help; 1
--- stopped otherwise; 2 a refused command line; 3 a device; 4 a malformed tape or file of names, or a tape that doesn't fit the memory; 5 no
--- memory; 6 a limit.)
+-- The outcome of a command line, the line for its fault and its exit status, as for `m11 sim`. (This project's own: 0 if the program halted
+-- or help was asked for; 1 if the run stopped otherwise; 2 for a refused command line; 3 if a device failed or a file couldn't be opened; 4
+-- for a malformed tape or file of names, or a tape that doesn't fit the memory; 5 for lack of memory; 6 for an exceeded limit.)
 use Rattle.std.specs.Prelude.{ℕ, [], Ok, Err}
 use Rattle.m11_base.specs.Devices.{Bytes}
 use Rattle.m11_cli_reports.specs.Runs.{sim_line, sim_status, stop_status}
@@ -12,7 +12,7 @@ use Rattle.m11_base_disassembly.specs.declared.map_fault.MapFault.TheVariants as
 use Rattle.m11_tracer.specs.declared.outcome.Outcome.{Outcome}
 use Rattle.m11_tracer.specs.declared.outcome.Outcome.TheVariants.{Usage, NotOpened, NoSymbols, Ran}
 
--- the exit status for an ending; a traced run that stopped by itself has the status of a run at its limit
+-- the exit status for an ending; a run that stopped at a breakpoint or at a change of the watched word has the status of a run at its limit
 abbrev pub ending_status : Ending → ℕ
 ending_status (Stopped stop) = stop_status stop
 ending_status Reached = 1

@@ -30,8 +30,8 @@ breakpoint_by (Err fault) count = Err fault
 breakpoint_by (Ok address) (Err fault) = Err fault
 breakpoint_by (Ok address) (Ok count) = Ok (record { address = address; count = count })
 
--- the breakpoint with the address before the colon of a text and the count after it, or 1 without a colon; or the fault of the address, or
--- else of the count
+-- the breakpoint with the address before the colon of a text and the count after it, or 1 if there is no colon; or the fault of the
+-- address, or else of the count
 abbrev pub breakpoint_of : Text → Result Breakpoint UsageFault
 breakpoint_of text = breakpoint_by (address_of (before_first is_colon text)) (count_by (after_colon text))
 
@@ -64,8 +64,8 @@ abbrev pub last_by : Result ℕ UsageFault → Option Text → Result ℕ UsageF
 last_by first None = first
 last_by first (Some text) = address_of text
 
--- the memory range between the addresses before and after the colon of a text, or the one word at an address without a colon; or the
--- fault of the first bad address
+-- the memory range from the address before the colon of a text to the address after it, both included, or only the word at the one address
+-- if there is no colon; or the fault of the first bad address
 abbrev pub range_of : Text → Result Range UsageFault
 range_of text =
     let first = address_of (before_first is_colon text) in range_by first (last_by first (after_colon text))

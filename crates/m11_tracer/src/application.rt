@@ -12,7 +12,7 @@ use m11_cli_tasks::{
 use std::alloc::{AllocError, Global};
 
 /// The command line `m11-trace [-n STEPS] [-s OCTAL] [-k WORDS] [-f FROM] [-p OCTAL[:COUNT]]... [-w OCTAL] [-r FIRST[:LAST]]... [-y
-/// NAMES]... [-b OCTAL] TAPE`. `AllocError` if memory is refused.
+/// NAMES]... [-b OCTAL] TAPE`. Error: memory was refused.
 pub(crate) fn application_command<'a>(alloc: Global) -> Result<Command<'a>, AllocError>
     ensures { IfOk result (IsCommand application) }
 {

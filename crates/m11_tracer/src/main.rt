@@ -21,7 +21,7 @@ use m11_cli_tasks::words;
 use std::process::ExitCode;
 
 fn main(rt: HostRuntime) -> ExitCode {
-    // Created before anything else: it opens a stand-in for each stream that the caller closed, so that no file takes its place.
+    // Created before anything else: it opens a stand-in for each standard stream that is closed, so that no other file takes its place.
     let mut files = SystemFiles::new(&rt);
     let mut input = ReaderFeed::new(rt.stdin());
     let mut out = WriterSink::new(rt.stdout());

@@ -1,4 +1,4 @@
--- What is kept where a fault comes.
+-- The limits on the state of an unfolding also hold after a fault.
 use Rattle.std.proofs.Common.{◌≡◌, ◌<◌, ◌+◌, Bool, true, Option, Some, None, ap, arith}
 use Rattle.m11_unfold_bodies.specs.Conditions.{no_conditions}
 use Rattle.m11_scan.specs.Line.{SourceLine}
@@ -10,7 +10,7 @@ use Rattle.m11_unfold_rules.proofs.Cases.{bytes_taken}
 use Rattle.m11_unfold.specs.Kept.{IsKept}
 use Rattle.m11_unfold.specs.Steps.{Fails, FailsMoving, with_line}
 
--- a line stood before what is left
+-- if the limits hold with a line before what is left, they hold without it
 pub kept_untaken : (line : SourceLine) (stage : Stage) → IsKept (with_line line stage) → IsKept stage
 kept_untaken line stage kept = record {
   lines = kept.lines;
@@ -21,7 +21,7 @@ kept_untaken line stage kept = record {
   nested = kept.nested;
 }
 
--- the line is taken
+-- if there is room for one more line, the limits hold after the line is read
 pub kept_taken : (line : SourceLine) (stage : Stage) → IsKept (with_line line stage) → stage.taken < most_lines
     → IsKept (record stage { taken = stage.taken + 1 })
 kept_taken line stage kept room =
@@ -35,7 +35,7 @@ kept_taken line stage kept room =
       nested = omega (arith, nested);
     }
 
--- the open body is dropped
+-- if the limits hold with an open body, they hold without it
 pub kept_dropped : (stage : Stage) (opening : Opening) → stage.opening ≡ None → IsKept (record stage { opening = Some opening })
     → IsKept stage
 kept_dropped stage opening none kept =
@@ -50,7 +50,7 @@ kept_dropped stage opening none kept =
       nested = kept.nested;
     }
 
--- the conditions of the innermost expansion are dropped
+-- the limits still hold if the conditions of the innermost expansion are lost
 pub kept_unconditioned : (stage : Stage) → IsKept stage → IsKept (record stage { conditions = no_conditions })
 kept_unconditioned stage kept =
     let conditions = kept.conditions in
@@ -64,7 +64,7 @@ kept_unconditioned stage kept =
       nested = omega (arith, nested);
     }
 
--- a body that fails, where one is open
+-- if a line of an open body fails, the move fails with the same fault
 pub fails_moving : (passed : Option UnfoldFault) (grows : Bool) (fault : UnfoldFault) → grows ≡ true → Fails passed fault
     → FailsMoving passed grows fault
 fails_moving passed grows TooDeep is fails = fails

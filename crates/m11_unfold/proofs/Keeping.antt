@@ -1,4 +1,4 @@
--- No move and no operator passes a limit without its fault, and each move leaves less to do.
+-- No move and no operator exceeds a limit without its fault, and each move by which no line becomes live leaves less to do.
 use Rattle.std.proofs.Common.{◌≡◌, ◌≤◌, ◌<◌, ◌+◌, ◌-◌, ◌*◌, ℕ, Bool, true, false, List, [], ◌∷◌, length, Option, Some, None, refl, sym, ap, ◌∙◌, arith}
 use Rattle.std.specs.Prelude.{◌&&◌, ◌==◌, if◌then◌else◌, nat_le, nat_lt}
 use Rattle.std.specs.Option.{is_none}
@@ -25,7 +25,7 @@ use Rattle.m11_unfold_rules.specs.declared.fault.UnfoldFault.{UnfoldFault}
 use Rattle.m11_unfold_rules.proofs.Cases.{bytes_taken, fault_from, live_or_skipped, move_from, taking_fault}
 use Rattle.m11_unfold.specs.Kept.{IsKept}
 
--- twice the lines that may still be taken, and the ends that are left
+-- twice the number of lines that may still be read, plus the number of ends of expansions that are left
 abbrev pub work_left : Stage → ℕ
 work_left stage = 2 * (most_lines - stage.taken) + depth stage.left
 
@@ -290,6 +290,6 @@ kept_by : (b : Bool) (stage : Stage) → IsKept stage → (if b then None else f
 kept_by true stage kept fits = tt
 kept_by false stage kept fits = kept_from stage.left stage kept fits
 
--- the next move of a stage
+-- a next move without a fault keeps all limits, and leaves less to do unless a line becomes live
 pub kept_next : (stage : Stage) → IsKept stage → next_fault stage ≡ None → Keeps stage (move stage)
 kept_next stage kept fits = kept_by stage.has_ended stage kept fits

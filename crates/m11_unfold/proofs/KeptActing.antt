@@ -1,4 +1,4 @@
--- No operator passes a limit without its fault.
+-- No operator exceeds a limit without its fault.
 use Rattle.std.proofs.Common.{◌≡◌, ◌≤◌, ◌<◌, ◌+◌, ℕ, Bool, true, false, List, [], ◌∷◌, length, Option, Some, None, Result, Ok, Err, IfErr, IfOk, refl, sym, subst, arith}
 use Rattle.std.specs.Prelude.{if◌then◌else◌, nat_le, nat_lt, drop, map}
 use Rattle.std.proofs.lemmas.Bool.Decides.{nat_tests}
@@ -26,7 +26,7 @@ use Rattle.m11_unfold_rules.proofs.Cases.{fault_by, with_statement}
 use Rattle.m11_unfold.specs.Kept.{IsKept}
 use Rattle.m11_unfold.proofs.Keeping.{not_so, opened_kept, under}
 
--- either of two
+-- if the limits hold after either of two results, they hold after the one that is chosen
 kept_if : (b : Bool) (one other : Acted) → (b ≡ true → IsKept one.after) → (b ≡ false → IsKept other.after)
     → IsKept (if b then one else other).after
 kept_if true one other first second = first refl
@@ -53,7 +53,7 @@ closed_fewer true entered = omega arith
 closed_fewer false entered = no_more entered
 
 module _ (stage : Stage) (kept : IsKept stage) where
-  -- other conditions, of which no more are entered
+  -- the limits hold with other conditions, if few enough are open and as many `.IF`s are open among skipped lines
   with_conditions : (conditions : OpenConditions) → length conditions.entered + conditions_open stage.left ≤ most_conditions
       → conditions.nested ≡ stage.conditions.nested → IsKept (record stage { conditions = conditions })
   with_conditions conditions few same =
@@ -98,7 +98,7 @@ module _ (stage : Stage) (kept : IsKept stage) where
         nested = kept.nested;
       }
 
-  -- other lines before the same ends
+  -- the limits hold with other lines left before the same ends of expansions
   with_left : (left : List RemainingItem) → marks left ≡ marks stage.left → IsKept (record stage { left = left })
   with_left left same =
       record {
@@ -174,11 +174,11 @@ module _ (stage : Stage) (kept : IsKept stage) where
   kept_by known text (OwnDirective word.Nchr column) fits = kept
   kept_by known text (OwnDirective word.End column) fits = kept_ended
 
-  -- what the operator of a line leaves
+  -- if its operator exceeds no limit, the limits hold after a line
   pub kept_acts : (known : KnownSymbols) (text : List ℕ) → act_fault stage text ≡ None → IsKept (act known stage text).after
   kept_acts known text fits = kept_by known text (operation stage.conditions stage.macros text) fits
 
--- what a call leaves that does it, or fails
+-- the limits hold after a call that executes the operator or fails
 pub kept_acted : (before after : Stage) (acted : Result Bool UnfoldFault) (known : KnownSymbols) (text : List ℕ) → IsKept before
     → IfOk acted (λ _. act_fault before text ≡ None) → IfOk acted (λ _. after ≡ (act known before text).after)
     → IfErr acted (λ _. IsKept after) → IsKept after

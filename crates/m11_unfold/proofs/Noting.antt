@@ -1,4 +1,4 @@
--- What is noted in parts is what is noted at once.
+-- Flags and symbols that are added in parts are the same as those added all at once.
 use Rattle.std.proofs.Common.{◌≡◌, ℕ, sym, ap}
 use Rattle.m11_scan_expressions.specs.Remarks.{Remarks, joined, no_remarks, with_flags}
 use Rattle.m11_scan_expressions.proofs.Joining.{joined_nothing, or_joins}

@@ -1,4 +1,4 @@
--- The calls give the unfolding of the source that was fed.
+-- The calls yield the unfolding of the source that was fed.
 use Rattle.std.proofs.Common.{◌≡◌, ◌∙◌, Bool, true, false, List, [], ◌∷◌, ◌++◌, append-nil, None, sym, ap, subst}
 use Rattle.std.specs.Prelude.{if◌then◌else◌, Result, Ok, Err}
 use Rattle.std.proofs.lemmas.List.{map-append}
@@ -27,7 +27,7 @@ use Rattle.m11_unfold.specs.declared.steps.Step.TheVariants.{NeedLine, End, Line
 pub begins : Unfolds [] [] (start [])
 begins = steps.Leads.Stays
 
--- a longer source begins with the same lines
+-- a source with further lines at its end unfolds to the same live lines first
 pub of_longer : (source more : List SourceLine) (done : List UnfoldedLine) (stage : Stage) → Unfolds source done stage
     → Unfolds (source ++ more) done (with_more more stage)
 of_longer source more done stage stands =
@@ -40,7 +40,7 @@ feeds source line done stage stands none =
     let P : List RemainingItem → Type 0 = λ l. Unfolds (source ++ line ∷ []) done (record stage { left = l ++ lefts.Line line ∷ [] }) in
     subst P none (of_longer source (line ∷ []) done stage stands)
 
--- moves that give no line
+-- moves by which no line becomes live leave the live lines as they are
 passes_on : (source : List SourceLine) (done : List UnfoldedLine) (before after : Stage) → Unfolds source done before → Leads before [] after
     → Unfolds source done after
 passes_on source done before after stands leads =
@@ -62,7 +62,7 @@ refuses source done before fault stands stops = record {
   passes = stops.passes;
 }
 
--- nothing is taken where nothing is left, and after `.END`
+-- nothing is read if nothing is left, or after `.END`
 rests_without : (left : List RemainingItem) (stage : Stage) → left ≡ [] → stage.has_ended ≡ false
     → (if stage.has_ended then taking.NothingLeft else move_from left stage) ≡ taking.NothingLeft
 rests_without left stage none going =

@@ -1,4 +1,4 @@
--- The fault of a line that is taken into a body.
+-- The fault of a line that is read into a body.
 use Rattle.std.proofs.Common.{◌≡◌, ◌<◌, ◌+◌, ℕ, false, true, Option, Some, None, refl, ap, ◌∙◌, arith}
 use Rattle.std.specs.Prelude.{is_some, nat_le}
 use Rattle.std.proofs.lemmas.Bool.Decides.{nat_tests}
@@ -28,7 +28,7 @@ module _ (stage : Stage) (line : SourceLine) (opening : Opening) (is : stage.ope
       ∙ fault_alike opening.purpose inside in
       rw fits entered
 
--- what there is can be named
+-- if there is an open body, what follows for each open body holds
 pub of_some : (found : Option Opening) → is_some found ≡ true → (P : Type 0) → ((opening : Opening) → found ≡ Some opening → P) → P
 of_some None there P named = absurd cc
 of_some (Some opening) there P named = named opening refl

@@ -11,13 +11,13 @@ purpose_of (Defines name formals) = stages.Defines name formals.items
 purpose_of (Repeats formals rounds) = stages.Repeats formals.items rounds
 purpose_of Drops = stages.Drops
 
--- a macro has at most as many formals as a line may have characters; other bodies have no such limit
+-- a body that defines a macro has at most as many formals as a line may have characters; other bodies have no such limit
 abbrev pub IsPurpose : Purpose → Type 0
 IsPurpose (Defines name formals) = length formals.items ≤ line_limit
 IsPurpose (Repeats formals rounds) = Unit {0}
 IsPurpose Drops = Unit {0}
 
--- the same limit for the header of a macro, if it has a valid name
+-- the header of a macro keeps the same limit, if it has a valid name
 abbrev pub IsFew : Option MacroNamed → Type 0
 IsFew None = Unit {0}
 IsFew (Some named) = length named.formals ≤ line_limit

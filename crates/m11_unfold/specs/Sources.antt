@@ -35,7 +35,7 @@ pub record IsOver (source : List SourceLine) (done : List UnfoldedLine) (after :
       → later ≡ []
 
 -- after a step: a further line is needed, or `.END` became live; or a line became live, and is the next one of the unfolding once its
--- operator is executed within the limits; or the step was refused
+-- operator is executed within the limits; or the step failed
 abbrev pub Reaches : List SourceLine → List UnfoldedLine → Stage → SourceLine → Result Step UnfoldFault → Type 0
 Reaches source done after line (Ok NeedLine) = IsAllTaken source done after
 Reaches source done after line (Ok End) = IsOver source done after
@@ -53,7 +53,7 @@ pub record RefusesAt (source : List SourceLine) (done : List UnfoldedLine) (live
   pub passes : Fails (act_fault after live.line.text) fault
 
 -- after a call for the operator of a live line: the line is the next one of the unfolding, and the call returned the results that the
--- unfolding has for this line; or the operator was refused
+-- unfolding has for this line; or the call failed
 abbrev pub ReachesOn : List SourceLine → List UnfoldedLine → KnownSymbols → Live → Stage → Stage → Result Act UnfoldFault → Type 0
 ReachesOn source done known live before after (Ok acted) =
     Unfolds source (done ++ given known live before ∷ []) after × (acted.is_own ≡ (given known live before).is_own)

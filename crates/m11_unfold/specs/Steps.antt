@@ -1,4 +1,4 @@
--- The effects of an unfolder's inner functions on a stage. (This project's own.)
+-- The effects of an unfolder's internal functions on a stage. (This project's own.)
 use Rattle.std.specs.Prelude.{◌≡◌, Bool, true, false, is_some, List, [], ◌∷◌, Option, Some, None, Result, Ok, Err}
 use Rattle.m11_base.specs.Devices.{Bytes}
 use Rattle.m11_unfold_bodies.specs.Bodies.{depth_after}
@@ -13,12 +13,12 @@ use Rattle.m11_unfold_rules.specs.declared.fault.UnfoldFault.TheVariants.{NoMemo
 use Rattle.m11_unfold.specs.declared.taking.MoveResult.{MoveResult}
 use Rattle.m11_unfold.specs.declared.taking.MoveResult.TheVariants.{NothingLeft, Passes, Gives}
 
--- the fault of the exceeded limit, or `NoMemory` if none is exceeded
+-- the fault is that of the exceeded limit, or `NoMemory` if none is exceeded
 abbrev pub Fails : Option UnfoldFault → UnfoldFault → Type 0
 Fails passed NoMemory = passed ≡ None
 Fails passed fault = passed ≡ Some fault
 
--- whether the next line is added to a body, or closes it
+-- whether the next item is a line that is added to the open body or closes it
 abbrev pub grows_from : List RemainingItem → Stage → Bool
 grows_from [] stage = false
 grows_from (End mark ∷ left) stage = false
@@ -27,7 +27,7 @@ grows_from (Line line ∷ left) stage = is_some stage.opening
 abbrev pub grows : Stage → Bool
 grows stage = grows_from stage.left stage
 
--- the fault of a move: that of the exceeded limit, or `NoMemory` if none is exceeded; only a move into a body allocates memory
+-- the fault of a move is that of the exceeded limit, or `NoMemory` if none is exceeded; only a move into a body allocates memory
 abbrev pub FailsMoving : Option UnfoldFault → Bool → UnfoldFault → Type 0
 FailsMoving passed grows NoMemory = (passed ≡ None) × (grows ≡ true)
 FailsMoving passed grows fault = passed ≡ Some fault
@@ -36,7 +36,7 @@ FailsMoving passed grows fault = passed ≡ Some fault
 abbrev pub with_line : SourceLine → Stage → Stage
 with_line line stage = record stage { left = Line line ∷ stage.left }
 
--- the result of a move within the limits, or its fault
+-- a call that makes this move has this result: the effect of the move if it exceeds no limit, or a fault
 abbrev pub Results : Option UnfoldFault → Bool → Move → Stage → SourceLine → Result MoveResult UnfoldFault → Type 0
 Results passed grows move after line (Ok NothingLeft) = move ≡ taking.NothingLeft
 Results passed grows move after line (Ok Passes) = (passed ≡ None) × (move ≡ taking.Passes after)

@@ -84,7 +84,7 @@ impl State {
     }
 
     // `.IF`: opens a condition. If 32 are open already, in all expansions and outside them together, the `.IF` is flagged O instead, and
-    // its lines are skipped.
+    // the lines of its block are skipped.
     fn act_if<N: Names>(
         &mut self,
         line: &Line,
@@ -108,7 +108,7 @@ impl State {
         Ok(())
     }
 
-    // Opens the condition of an `.IF`. At most 31 may be open before.
+    // Opens the condition of an `.IF`. At most 31 may already be open in the innermost expansion.
     #[tactic(auto, using(crate::proofs::Noting::flags_after))]
     fn open_condition<N: Names>(
         &mut self,
@@ -130,7 +130,8 @@ impl State {
         Ok(())
     }
 
-    // `.IFF`, `.IFT` or `.IFTF`: switches the innermost condition. If the current expansion has none, the line is flagged O instead.
+    // `.IFF`, `.IFT` or `.IFTF`: switches the innermost condition. If the innermost expansion, or the source outside all expansions, has no
+    // open condition, the line is flagged O instead.
     fn act_switch(&mut self, line: &Line, column: u8, part: Part, remarks: &mut Remarks)
         ensures after { stage_of self.new
             ≡ (spec.acted_within (switched part) line.now.text column (stage_of self.old)).after }
@@ -144,8 +145,8 @@ impl State {
         }
     }
 
-    // `.ENDC`: closes the condition beyond the limit, if there is one, or else the innermost one. If the current expansion has none, the
-    // line is flagged O instead.
+    // `.ENDC`: closes the condition beyond the limit, if there is one, or else the innermost one. If the innermost expansion, or the source
+    // outside all expansions, has no condition to close, the line is flagged O instead.
     fn act_close(&mut self, line: &Line, column: u8, remarks: &mut Remarks)
         ensures after { stage_of self.new
             ≡ (spec.acted_within closed line.now.text column (stage_of self.old)).after }
@@ -203,7 +204,7 @@ impl State {
         Ok(())
     }
 
-    // `.REPT`: opens a body with as many rounds as its argument says, and without formals.
+    // `.REPT`: opens a body without formals, with as many rounds as its argument says: none if that is negative or missing.
     fn act_repeat<N: Names>(
         &mut self,
         alloc: Global,
@@ -269,7 +270,7 @@ impl State {
     }
 }
 
-// The purpose of the body that follows the header of a macro: to be discarded, if the header has no valid name.
+// The purpose of the body that follows the header of a macro: to define the macro, or to be discarded if the header has no valid name.
 fn defining(header: Option<Header>) -> Purpose
     requires { IsFew (header_seen header) }
     ensures few { IsPurpose result }

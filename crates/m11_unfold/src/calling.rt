@@ -30,8 +30,8 @@ use std::alloc::{AllocError, Global};
 
 impl State {
     // Executes the operator of a live line, if it has one, and adds its flags and the symbols in its arguments to `remarks`. Returns
-    // whether the line belongs to unfolding: a macro call, or a directive for conditions, repeats or macros other than `.NARG` and
-    // `.NCHR`. Errors: `TooDeep` if a call would open the 17th expansion, before an argument is read; otherwise `NoMemory`.
+    // whether the line belongs to unfolding: a macro call, or a directive for conditions, repeats or macros, except `.NARG` and `.NCHR`.
+    // Errors: `TooDeep` if a call would open the 17th expansion, before an argument is read; otherwise `NoMemory`.
     #[tactic(auto, using(crate::proofs::Noting::nothing_more))]
     pub(crate) fn act<N: Names>(
         &mut self,
@@ -83,8 +83,8 @@ impl State {
         }
     }
 
-    // The macro that a word names, if any; none while lines are skipped, since a line that ends a skipped part acts by its
-    // directive.
+    // The macro that a word names, if any. None while lines are skipped: a line that is live there ends the skipped part, and its operator
+    // is a directive even if a macro has the same name.
     fn macro_called(&self, word: &[u8]) -> Option<&Macro>
         ensures { option_copied result
             ≡ spec.macro_of self.now.conditions self.now.macros.entries (name_of (six_of word.now)) }

@@ -15,12 +15,12 @@ ghost use Rattle.m11_unfold.specs.declared.steps.Act.{Act};
 ghost use Rattle.m11_unfold.specs.declared.steps.Step.{Step};
 ghost use Rattle.m11_unfold.specs.declared.steps.Step.TheVariants as step;
 
-/// A new unfolder is at the stage before the first line of a source. `feed` extends the source by one line. A line that `next`
-/// yields is the next live line of the source once its operator is executed. If `next` returns a fault, the unfolding of the source
-/// exceeds the limit that the fault names, or memory is refused. If `next` needs a line, all fed lines have been read; after `End` no
-/// line becomes live, whatever follows. If `act` succeeds, the line is the next live line of the source; if it returns a fault, the
-/// operator exceeds the limit that the fault names, or memory is refused. Lines appended to the source change none of the lines that
-/// became live.
+/// A new unfolder is at the stage before the first line of a source. `feed` extends the source by one line. A line that `next` yields is
+/// the next live line of the source once its operator is executed. If `next` returns a fault, the unfolding of the source exceeds the limit
+/// that the fault names, or memory is refused. If `next` needs a line, all fed lines have been read; after `End` no line becomes live,
+/// whatever follows. If `act` succeeds for a line that `next` yielded, that line is the next live line of the source; if `act` returns a
+/// fault, the operator exceeds the limit that the fault names, or memory is refused. Lines appended to the source change none of the lines
+/// that became live.
 pub fn the_calls_unfold_the_source()
     ensures begins { Unfolds [] [] (start []) }
     ensures feeds { (source : List SourceLine) (line : SourceLine) (done : List UnfoldedLine) (stage : Stage) → Unfolds source done stage

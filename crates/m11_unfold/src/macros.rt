@@ -31,7 +31,7 @@ impl Model for Macro {
 }
 
 impl Macro {
-    // A macro with at most 132 formals, as many as a line may have characters. Error: memory may be refused.
+    // A macro with at most 132 formals; a line has at most as many characters. Error: memory may be refused.
     pub(crate) fn new(
         alloc: Global,
         formals: Vec<MacroFormal>,

@@ -66,7 +66,7 @@ impl Opening {
         }
     }
 
-    // The number of bytes in its lines; the end of each line counts as one.
+    // The number of bytes in the lines of the body; the end of each line counts as one.
     pub(crate) fn bytes(&self) -> u32
         ensures { result ≡ size_of self.now.taken.body }
     {

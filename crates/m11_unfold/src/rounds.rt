@@ -17,7 +17,7 @@ pub(crate) fn one_round(alloc: Global, actuals: &[Vec<u8>]) -> Result<Rounds, Al
     Ok(Rounds::listed(rounds))
 }
 
-// Rounds, one for each text, with that text as the only actual. Error: memory may be refused.
+// One round for each text, with that text as its only actual. Error: memory may be refused.
 pub(crate) fn round_of_each(alloc: Global, texts: &[Vec<u8>]) -> Result<Rounds, AllocError>
     ensures { IfOk result (λ rounds. rounds ≡ map (λ text. text ∷ []) (texts_of texts.now)) }
 {

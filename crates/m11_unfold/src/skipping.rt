@@ -56,7 +56,7 @@ fn skip_by(conditions: &mut Conditions, word: Option<Directive>) -> bool
     }
 }
 
-// Skips an `.ENDC` that closes a condition among skipped lines; any other is live.
+// Skips an `.ENDC` if it closes a condition among skipped lines, and returns whether it does; any other `.ENDC` is live.
 fn skip_close(conditions: &mut Conditions) -> bool
     ensures skipped { result ≡ true → spec.skipped_by conditions.old (Some Endc) ≡ Some conditions.new }
     ensures live { result ≡ false → spec.skipped_by conditions.old (Some Endc) ≡ None }

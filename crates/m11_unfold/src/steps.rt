@@ -2,7 +2,7 @@
 
 use m11_scan_expressions::Remarks;
 
-/// What a call of `next` went on to, if it didn't fail.
+/// The point at which a call of `next` stopped, if it didn't fail.
 #[derive(Clone, Copy, PartialEq, Eq, Debug)]
 pub enum Step {
     /// Nothing is left to unfold: feed the next line of the source, unless the source has ended.
@@ -16,8 +16,8 @@ pub enum Step {
 /// The result of executing a live line's operator.
 #[derive(Drop)]
 pub struct Act {
-    /// Whether the line belongs to unfolding: a macro call, or a directive for conditions, repeats or macros other than `.NARG` and
-    /// `.NCHR`. Such a line emits nothing.
+    /// Whether the line belongs to unfolding: a macro call, or a directive for conditions, repeats or macros, except `.NARG` and `.NCHR`.
+    /// Such a line emits nothing.
     pub is_own: bool,
     /// The flags of the operator and its arguments, and the symbols in them, in order.
     pub remarks: Remarks,

@@ -274,8 +274,8 @@ impl State {
         Ok(())
     }
 
-    // Inserts an expansion before what is left. The expansion begins without open conditions; its end restores those around it.
-    // Error: memory may be refused, and then the conditions of the innermost expansion are lost.
+    // Inserts an expansion before what is left. The expansion begins without open conditions; its end restores those around it. Error:
+    // memory may be refused, and then the conditions that were open before are lost.
     pub(crate) fn expand(
         &mut self,
         template: Rc<Template>,

@@ -105,15 +105,16 @@ impl Unfolder {
         self.fault.keep(step)
     }
 
-    /// Whether nothing is left to unfold and `.END` hasn't become live, so that `next` returns `NeedLine`, or again a fault.
+    /// Whether nothing is left to unfold and `.END` hasn't become live, in which case `next` returns `NeedLine`, or the fault again if the
+    /// unfolding has failed.
     pub fn needs_line(&self) -> bool
         ensures { result ≡ spec.needs_line self.now.stage }
     {
         !self.state.has_ended && self.state.left.is_empty()
     }
 
-    /// Executes the operator of the line that the last `next` yielded. `operator` is the operator's span in the line, or None if the
-    /// line has none, and `names` is what is known once the line's labels are defined.
+    /// Executes the operator of the line that the last `next` yielded. `operator` is the operator's span in the line, or None if the line
+    /// has none, and `names` has the symbols that are known once the line's labels are defined.
     ///
     /// Errors: `TooDeep` if a call would open the 17th expansion, before an argument is read; otherwise `NoMemory`.
     pub fn act<N: Names>(

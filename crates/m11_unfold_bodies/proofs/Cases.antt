@@ -1,4 +1,4 @@
--- The cases of rules by themselves: a proof about a rule goes through them one by one.
+-- The cases of rules, each by itself: a proof about a rule goes through them one by one.
 use Rattle.std.specs.Prelude.{ℕ, ◌&&◌, Bool, if◌then◌else◌, List, [], ◌∷◌}
 use Rattle.m11_base.specs.Devices.{Bytes}
 use Rattle.m11_unfold_bodies.specs.Conditions.{is_live_in}

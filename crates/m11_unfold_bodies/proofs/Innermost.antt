@@ -1,10 +1,10 @@
--- The innermost expansion comes last, and is changed where it lies.
+-- The innermost expansion comes last in the list, and is changed in place.
 use Rattle.std.proofs.Common.{◌≡◌, ◌∙◌, ℕ, suc, ◌-◌, ◌<◌, List, [], ◌∷◌, ◌++◌, length, refl, sym, subst, ap, arith}
 use Rattle.std.specs.Prelude.{slice_index_or}
 use Rattle.m11_unfold_bodies.specs.Frames.{Frame}
 use lib.ListN.{set}
 
--- items before the last one of `count`, the last one, and another in its place
+-- a list of `count` items has this last item; with another item in its place, the items before are the same
 pub record Ended (items : List Frame) (last other : Frame) (count : ℕ) : Type 0 where
   pub front : List Frame
   pub items_are : items ≡ front ++ last ∷ []
@@ -34,7 +34,7 @@ no_more : (items : List Frame) (last : Frame) → [] ≡ items ++ last ∷ [] �
 no_more [] last h = cc
 no_more (frame ∷ items) last h = cc
 
--- a list has one end
+-- equal lists have equal last items, and equal items before them
 pub one_end : (items others : List Frame) (last other : Frame) → items ++ last ∷ [] ≡ others ++ other ∷ [] → (items ≡ others) × (last ≡ other)
 one_end [] [] last other h = (refl, cc)
 one_end [] (frame ∷ others) last other h = absurd (no_more others other cc)

@@ -1,4 +1,4 @@
--- A body's line goes piece after piece.
+-- A line of a body is replaced piece by piece.
 use Rattle.std.proofs.Common.{◌≡◌, ℕ, suc, ◌+◌, ◌<◌, Bool, true, false, List, [], ◌∷◌, ◌++◌, drop, take, refl, sym, ap, ◌∙◌, subst, arith, append_assoc}
 use Rattle.std.specs.Prelude.{◌&&◌, ◌||◌, if◌then◌else◌, unwrap_or}
 use Rattle.std.specs.List.{prefix_len}
@@ -8,7 +8,7 @@ use Rattle.m11_scan.specs.Line.{SourceLine, line_of, with_bytes}
 use Rattle.m11_scan.proofs.MoreBytes.{line_of-more}
 use Rattle.m11_unfold_bodies.specs.Substitution.{Run, Other, pieces_of, piece_of, text_of, is_quote, begins_replaced, actual_for, is_replaced, joined, substituted}
 
--- a name character before a text begins the run that goes on in it
+-- a name character before a text begins a run that includes the name characters at the front of the text
 pub run_first : (byte : ℕ) (text : List ℕ) → is_name_character byte ≡ true
     → pieces_of (byte ∷ text)
     ≡ Run (byte ∷ take (prefix_len is_name_character text) text) ∷ pieces_of (drop (prefix_len is_name_character text) text)
@@ -26,7 +26,7 @@ run_first byte (next ∷ text) named = go (is_name_character next) refl (λ e. r
       rw (named, more, e, one) refl
   go false e rest = rw (named, e, e) refl
 
--- a text that begins with a run
+-- the first piece of a text that begins with name characters is the run of these characters
 pub run_piece : (text : List ℕ) (n : ℕ) → n ≡ prefix_len is_name_character text → 0 < n
     → pieces_of text ≡ piece_of (take n text) ∷ pieces_of (drop n text)
 run_piece [] n is some = absurd (omega arith)
@@ -70,7 +70,7 @@ module _ (formals : List (ℕ × ℕ)) (actuals : List (List ℕ)) (is_after : B
       ∙ ap (λ (t : List ℕ). piece_of piece ∷ pieces_of t) (sym back))
       (subst T (sym front) text)
 
--- the front of a substituted text was put in, and the rest is left
+-- the front of a substituted text is in the line, and the rest is still to be added
 pub record SoFar (formals : List (ℕ × ℕ)) (actuals : List (List ℕ)) (text rest : List ℕ) (is_after : Bool) (line : SourceLine) : Type 0 where
   pub done : List ℕ
   pub is : line ≡ line_of done

@@ -12,7 +12,7 @@ use Rattle.m11_unfold_bodies.specs.Frames.{Frame, HasNext, of_rounds, lines_of, 
 
 -- ---- lines have no end
 
--- what a function of the list of lefts passes over
+-- functions of the ends that are left skip the lines before them
 module _ (formals : List (ℕ × ℕ)) where
   marks-round : (body actuals : List (List ℕ)) (left : List RemainingItem) → marks (round formals body actuals ++ left) ≡ marks left
   marks-round [] actuals left = refl
@@ -69,7 +69,7 @@ past-lines : (frame : Frame) (left : List RemainingItem) → after_mark (lines_o
 past-lines frame left =
     past-of_rounds frame.template.formals frame.template.body (drop frame.index frame.template.body) frame.rounds left
 
--- ---- the innermost expansion stands in front
+-- ---- the items of the innermost expansion come first
 
 stacked-append : (frames : List Frame) (frame : Frame) (left : List RemainingItem)
     → stacked (frames ++ frame ∷ []) left ≡ lines_of frame ++ End frame.mark ∷ stacked frames left
@@ -177,7 +177,7 @@ pub no_statement : (statement : Option SourceLine) → is_there statement ≡ fa
 no_statement None free = refl
 no_statement (Some line) free = absurd cc
 
--- neither a statement nor an expansion, and whether the line of the source is left
+-- with neither a statement nor an open expansion, nothing is left if the line of the source isn't, and otherwise that line comes first
 pub none_fed : (statement : Option SourceLine) (frames : List Frame) (has_fed : Bool) (fed : SourceLine) → is_there statement ≡ false
     → has_frame frames ≡ false → has_fed ≡ false → (remains statement frames (line_where has_fed fed)).left ≡ []
 none_fed (Some line) frames has_fed fed free bare is = absurd cc

@@ -39,7 +39,7 @@ past_closed conditions inside open_now within =
 
 -- ---- inside a condition
 
--- but for whether the lines of the innermost condition are live, two are the same
+-- two states of the conditions are the same, except for whether the lines of the innermost condition are live
 record AreAlike (first last : OpenConditions) : Type 0 where
   holds : innermost last.entered ≡ innermost first.entered
   outer : without_first last.entered ≡ without_first first.entered

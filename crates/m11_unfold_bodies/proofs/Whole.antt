@@ -18,7 +18,7 @@ module _ (nesting : List ℕ → Nesting) where
   at_last None = refl
   at_last (Some depth) = refl
 
-  -- one line more, after lines of a body
+  -- the depth after one more line of a body follows from the depth before it
   past_more : (texts : List (List ℕ)) (depth inside : ℕ) (text : List ℕ) → depth_past nesting depth texts ≡ Some inside
       → depth_past nesting depth (texts ++ text ∷ []) ≡ depth_after (nesting text) inside
   past_more [] depth inside text stands =
@@ -35,7 +35,7 @@ module _ (nesting : List ℕ → Nesting) where
       go None more h = absurd (let bad = h in cc)
       go (Some i) more h = more i h
 
-  -- lines of a body before what is left
+  -- a body cut off after some of its lines is these lines, followed by the rest of the cut
   cut_past : (lines : List SourceLine) (depth inside : ℕ) (left : List RemainingItem) → depth_past nesting depth (texts_of lines) ≡ Some inside
       → cut_at nesting depth (before_left lines left) ≡ with_lines (texts_of lines) (cut_at nesting inside left)
   cut_past [] depth inside left stands =
@@ -115,7 +115,7 @@ module _ (formals : List (ℕ × ℕ)) (actuals : List (List ℕ)) where
       → substituted formals actuals text ≡ text
   unchanged text h = joined_alone (pieces_of text) h ∙ pieces_text text
 
-  -- two runs with a `'` between them, by what is put in their places
+  -- the text of two runs with a `'` between them, given what replaces each run, if anything
   abbrev two_put : List ℕ → List ℕ → Option (List ℕ) → Option (List ℕ) → List ℕ
   two_put first second a b = unwrap_or a first ++ (kept (is_some a || is_some b) (Other 39) ++ (unwrap_or b second ++ []))
 

@@ -1,4 +1,4 @@
--- Without formals nothing in a text is replaced.
+-- If there are no formals, nothing in a text is replaced.
 use Rattle.std.proofs.Common.{◌≡◌, ◌∙◌, ◌==◌, ℕ, true, false, List, [], ◌∷◌, length, Option, Some, None, refl, ap, sym, arith, eqb-true}
 use Rattle.std.specs.List.{list_any}
 use Rattle.std.specs.Option.{is_some, option_and_then}

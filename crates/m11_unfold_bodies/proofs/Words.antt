@@ -8,7 +8,7 @@ use Rattle.m11_unfold_bodies.specs.Laws.{IsReplacedBy, IsWord, begins_in_word, e
 use Rattle.m11_unfold_bodies.specs.Substitution.{Other, Piece, Run, actual_for, begins_replaced, is_replaced, joined, pieces_of, substituted}
 use Rattle.m11_unfold_bodies.proofs.Cases.{in_run, kept}
 
--- ---- pieces of a text in two parts, where no run goes from one into the other
+-- ---- pieces of a text in two parts, if no run crosses from the first into the second
 
 in_run_some : (byte : ℕ) (pieces : List Piece) → in_run byte pieces ≢ []
 in_run_some byte [] h = let bad = h in cc
@@ -108,7 +108,7 @@ last_piece front byte none = apart front (byte ∷ []) (inr none) ∙ rw none re
 -- ---- replacement
 
 module _ (formals : List (ℕ × ℕ)) (actuals : List (List ℕ)) where
-  -- whether the last of some pieces is replaced, or what stands before them where there is none
+  -- whether the last of these pieces is replaced; without pieces, whether the piece before them is
   last_replaced : Bool → List Piece → Bool
   last_replaced is_after [] = is_after
   last_replaced is_after (piece ∷ pieces) = last_replaced (is_replaced formals actuals piece) pieces
@@ -137,7 +137,7 @@ module _ (formals : List (ℕ × ℕ)) (actuals : List (List ℕ)) where
         ap (λ (a : Option (List ℕ)). unwrap_or a (kept (is_after || begins_replaced formals actuals rest) (Run name))
         ++ joined formals actuals (is_some a) rest) put
 
-    -- another character before the word
+    -- another character before a replaced word stays, unless it is a quote
     beside : (is_after is_quote : Bool) (byte : ℕ) (rest : List Piece) → (byte == 39) ≡ is_quote
         → joined formals actuals is_after (Other byte ∷ Run name ∷ rest)
         ≡ (if is_quote then [] else byte ∷ []) ++ (actual ++ joined formals actuals true rest)
@@ -165,7 +165,7 @@ module _ (formals : List (ℕ × ℕ)) (actuals : List (List ℕ)) where
         ∙ ap (λ (t : List ℕ). substituted formals actuals front ++ t)
         (beside (last_replaced false (pieces_of front)) is_quote byte rest is)
 
-    -- what stands before the word, without the quote
+    -- a character that is neither a name character nor a quote stays at the end of a text
     text_alone : (front : List ℕ) (byte : ℕ) → is_name_character byte ≡ false → (byte == 39) ≡ false
         → substituted formals actuals (front ++ byte ∷ []) ≡ substituted formals actuals front ++ byte ∷ []
     text_alone front byte none other =

@@ -36,14 +36,14 @@ with_line text cut = record { body = text ∷ cut.body; is_closed = cut.is_close
 abbrev pub with_lines : List Bytes → Cut → Cut
 with_lines texts cut = record { body = texts ++ cut.body; is_closed = cut.is_closed; after = cut.after }
 
--- the number of bodies open inside this one after a line; None if the line closes this one
+-- the number of bodies open inside a body after a line; None if the line closes the body itself
 abbrev pub depth_after : Nesting → ℕ → Option ℕ
 depth_after Opens depth = Some (depth + 1)
 depth_after Neither depth = Some depth
 depth_after Closes zero = None
 depth_after Closes (suc depth) = Some depth
 
--- the number of bodies open inside this one after a line that doesn't close it
+-- the number of bodies open inside a body after a line that doesn't close the body itself
 abbrev pub depth_inside : Nesting → ℕ → ℕ
 depth_inside Opens depth = depth + 1
 depth_inside Neither depth = depth

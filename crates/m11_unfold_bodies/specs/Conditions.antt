@@ -44,7 +44,7 @@ entering holds conditions =
 abbrev pub past : OpenConditions → OpenConditions
 past conditions = record conditions { is_past = true }
 
--- whether a part of a condition is live, after `.IFF`, `.IFT` or `.IFTF`
+-- whether the part after `.IFF`, `.IFT` or `.IFTF` is live; the flag says whether the condition is true
 abbrev pub is_live_in : Part → Bool → Bool
 is_live_in False holds = not holds
 is_live_in True holds = holds

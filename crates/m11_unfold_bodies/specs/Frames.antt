@@ -1,5 +1,5 @@
--- Open expansions, each with its body, the index of its next line, its rounds from the current one on, and its end; and what is left to
--- unfold while they are open. (This project's own.)
+-- Open expansions, each with its body, the index of its next line, its remaining rounds and its end; and what is left to unfold while they
+-- are open. (This project's own.)
 use Rattle.std.specs.Prelude.{◌≡◌, ◌<◌, ◌⊎◌, ℕ, ◌+◌, List, [], ◌∷◌, ◌++◌, length, drop, Bool, true, false, not, ◌&&◌, Option, Some, None}
 use Rattle.std.specs.List.{flat_map}
 use Rattle.std.specs.Option.{option_or}
@@ -10,15 +10,15 @@ use Rattle.m11_unfold_bodies.specs.Bodies.{Template}
 use Rattle.m11_unfold_bodies.specs.Left.{RemainingItem, Line, End, Remains, round}
 use Rattle.m11_unfold_bodies.specs.declared.mark.Mark.{Mark}
 
--- a body with its formals, the index of its next line, the actuals of the rounds still to come (the current one first), and the
--- end of the expansion
+-- a body with its formals, the index of its next line, the actuals of the remaining rounds (the current one first), and the end of the
+-- expansion
 pub record Frame : Type 0 where
   pub template : Template
   pub index : ℕ
   pub rounds : List (List Bytes)
   pub mark : Mark
 
--- the lines of the rounds still to come; of the first round only the rest of the body
+-- the lines of the remaining rounds; for the first of these rounds, only the rest of the body
 abbrev pub of_rounds : List Name → List Bytes → List Bytes → List (List Bytes) → List RemainingItem
 of_rounds formals body rest [] = []
 of_rounds formals body rest (actuals ∷ rounds) = round formals rest actuals ++ flat_map (round formals body) rounds
@@ -26,16 +26,17 @@ of_rounds formals body rest (actuals ∷ rounds) = round formals rest actuals ++
 abbrev pub lines_of : Frame → List RemainingItem
 lines_of frame = of_rounds frame.template.formals frame.template.body (drop frame.index frame.template.body) frame.rounds
 
--- the items of open expansions before what is left; the list begins with the outermost expansion, and the items with those of the innermost
+-- the items of open expansions, followed by what is left; the list of frames begins with the outermost expansion, and the items with those
+-- of the innermost
 abbrev pub stacked : List Frame → List RemainingItem → List RemainingItem
 stacked [] left = left
 stacked (frame ∷ frames) left = stacked frames (lines_of frame ++ End frame.mark ∷ left)
 
--- there is a next line unless no round is left
+-- there is a next line, or no round is left
 abbrev pub HasNext : Frame → Type 0
 HasNext frame = (frame.index < length frame.template.body) ⊎ (frame.rounds ≡ [])
 
--- the line, if there is one, as what is left to unfold
+-- what is left to unfold of a line that may be absent: the line itself, if there is one
 abbrev pub line_left : Option SourceLine → List RemainingItem
 line_left None = []
 line_left (Some line) = Line line ∷ []
@@ -67,17 +68,17 @@ abbrev pub without_first : List (List Bytes) → List (List Bytes)
 without_first [] = []
 without_first (actuals ∷ rounds) = rounds
 
--- the number of actuals of the innermost macro call among these frames; without a call, the count for what is around them
+-- the number of actuals of the innermost macro call among these frames; `count` if none of them is a call
 abbrev pub count_from : Option ℕ → List Frame → Option ℕ
 count_from count [] = count
 count_from count (frame ∷ inner) = count_from (option_or frame.mark.arguments count) inner
 
--- the number of bytes in the bodies of the repeats among these frames, added to `bytes`
+-- `bytes` plus the number of bytes in the bodies of the repeats among these frames
 abbrev pub bytes_from : ℕ → List Frame → ℕ
 bytes_from bytes [] = bytes
 bytes_from bytes (frame ∷ inner) = bytes_from (bytes + frame.mark.bytes) inner
 
--- the number of conditions open around these frames, added to `count`
+-- `count` plus the number of conditions open around each of these frames
 abbrev pub conditions_from : ℕ → List Frame → ℕ
 conditions_from count [] = count
 conditions_from count (frame ∷ inner) = conditions_from (count + length frame.mark.conditions.entered) inner

@@ -8,12 +8,12 @@ use Rattle.m11_unfold_bodies.specs.Conditions.{OpenConditions, closed, entering,
 use Rattle.m11_unfold_bodies.specs.Substitution.{Run, actual_for}
 use Rattle.m11_unfold_bodies.specs.declared.conditions.Part.{Part}
 
--- one or more name characters, and nothing else
+-- a text is a word: one or more name characters, and nothing else
 abbrev pub IsWord : Bytes → Type 0
 IsWord [] = ⊥
 IsWord (byte ∷ text) = has_name_characters_alone (byte ∷ text) ≡ true
 
--- a word and the actual that replaces it
+-- a text is a word, and this actual replaces it
 abbrev pub IsReplacedBy : List Name → List Bytes → Bytes → Bytes → Type 0
 IsReplacedBy formals actuals word actual = IsWord word × (actual_for formals actuals (Run word) ≡ Some actual)
 
@@ -39,15 +39,15 @@ without_last_quote [] = []
 without_last_quote (byte ∷ []) = if byte == 0o47 then [] else byte ∷ []
 without_last_quote (byte ∷ next ∷ text) = byte ∷ without_last_quote (next ∷ text)
 
--- lines inside skipped ones lead from one state of the conditions to the other: whole conditions alone, one after another, each with such
--- lines inside
+-- skipped lines lead from the first state of the conditions to the second: only the whole conditions among them matter, one after another,
+-- each with such lines inside
 pub data SkippedInside : OpenConditions → OpenConditions → Type 0 where
   NoneSkipped : (conditions : OpenConditions) → SkippedInside conditions conditions
   OneSkipped : (first inner last : OpenConditions) → SkippedInside (nested first) inner → SkippedInside (unnested inner) last
       → SkippedInside first last
 
--- lines inside a condition lead from one state of the conditions to the other: switches and whole conditions, one after another; a whole
--- condition was opened, was among skipped lines, or was beyond the limit
+-- lines inside a condition lead from the first state of the conditions to the second: switches and whole conditions, one after another; a
+-- whole condition was opened, was among skipped lines, or was beyond the limit
 pub data Inside : OpenConditions → OpenConditions → Type 0 where
   Nothing : (conditions : OpenConditions) → Inside conditions conditions
   Switch : (part : Part) (first last : OpenConditions) → Inside (switched part first) last → Inside first last

@@ -65,7 +65,7 @@ conditions_in (mark ∷ marks) = conditions_in marks + length mark.conditions.en
 abbrev pub conditions_open : List RemainingItem → ℕ
 conditions_open left = conditions_in (marks left)
 
--- what is left after `.MEXIT`: everything from the end of the innermost expansion on; nothing, if no expansion is open
+-- what is left after `.MEXIT`: the end of the innermost expansion and everything after it; nothing if no expansion is open
 abbrev pub after_mark : List RemainingItem → List RemainingItem
 after_mark [] = []
 after_mark (Line line ∷ left) = after_mark left

@@ -22,7 +22,7 @@ pieces_of (byte ∷ text) =
       | Other other ∷ pieces ↦ Run (byte ∷ []) ∷ Other other ∷ pieces
     ]) else Other byte ∷ pieces_of text
 
--- the piece that these characters are: a run, if the first is a name character, otherwise the first character alone
+-- the piece made of these characters: a run of all of them, if the first is a name character, otherwise the first alone
 abbrev pub piece_of : Bytes → Piece
 piece_of [] = Run []
 piece_of (byte ∷ text) = if is_name_character byte then Run (byte ∷ text) else Other byte
@@ -34,7 +34,8 @@ actual_named (formal ∷ formals) [] name = None
 actual_named (formal ∷ formals) (actual ∷ actuals) name =
     if is_same_name formal name then Some actual else actual_named formals actuals name
 
--- the replacement of a piece: the actual, if the first six characters of a run are a formal's name
+-- the actual that replaces a piece: that of the formal named by the first six characters of a run; None if there is no such formal, or no
+-- actual for it
 abbrev pub actual_for : List Name → List Bytes → Piece → Option Bytes
 actual_for formals actuals (Run run) = option_and_then (actual_named formals actuals) (name_of (six_of run))
 actual_for formals actuals (Other byte) = None

@@ -84,7 +84,7 @@ impl Conditions {
         self.nested
     }
 
-    /// Counts an `.IF` among skipped lines. At most 4,294,967,294 may be open there before.
+    /// Counts an `.IF` among skipped lines. At most 4,294,967,294 may already be open there.
     pub fn nest(&mut self)
         requires { self.old.nested < 4294967295 }
         ensures { self.new ≡ spec.nested self.old }
@@ -100,7 +100,7 @@ impl Conditions {
         self.nested -= 1;
     }
 
-    /// Opens a condition. Its lines are live if it is true. At most 31 may be open before.
+    /// Opens a condition. Its lines are live if it is true. At most 31 may already be open.
     pub fn enter(&mut self, holds: bool)
         requires { length self.old.entered < spec.most_conditions }
         ensures { self.new ≡ spec.entering holds self.old }

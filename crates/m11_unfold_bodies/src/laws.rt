@@ -35,8 +35,9 @@ pub fn a_formal_gives_way_with_a_quote_on_each_side()
         ++ (actual ++ substituted formals actuals (without_first_quote after)) }
 {}
 
-/// The replacement of a word removes one `'` on each side of it: alone, after a quote, before one, or between two, only its
-/// actual remains. One or two quotes between two such words join their actuals; of three, one remains.
+/// The replacement of a word removes one `'` on each side of it, if present: of a word with no quote beside it, with one before it, with
+/// one after it, or with one on each side, only the actual remains. One or two quotes between two such words join their actuals; of three
+/// quotes, one remains.
 pub fn quotes_beside_a_formal_vanish()
     ensures alone { (formals : List Name) (actuals : List Bytes) (word actual : Bytes) → IsReplacedBy formals actuals word actual
         → substituted formals actuals word ≡ actual }
@@ -68,7 +69,7 @@ pub fn half_taken_bodies_go_on()
         → body_of nesting (before_left lines left) ≡ with_lines taken.body (cut_at nesting taken.depth left) }
 {}
 
-/// An expansion consists of its rounds, one after another, and one end. With an empty body, or without rounds, it is only its end.
+/// An expansion consists of its rounds, one after another, and one end. With an empty body, or without rounds, it is the end alone.
 pub fn expansions_are_rounds_and_an_end()
     ensures rounds { (formals : List Name) (actuals : List Bytes) (rounds : List (List Bytes)) (body : List Bytes)
         (mark : Mark) (left : List RemainingItem) → expanded formals (actuals ∷ rounds) body mark left

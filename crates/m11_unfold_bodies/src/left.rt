@@ -76,7 +76,7 @@ impl RemainingLines {
         self.has_fed = true;
     }
 
-    /// Inserts the statement of an `.IIF` before what is left. There must be no other one.
+    /// Inserts the statement of an `.IIF` before what is left. No other statement may be left.
     pub fn put(&mut self, statement: Line)
         requires { self.old.has_statement ≡ false }
         ensures left { self.new.left ≡ spec.Line statement ∷ self.old.left }
@@ -100,8 +100,8 @@ impl RemainingLines {
         }
     }
 
-    /// Removes the line of the source and stores it in `line`, if it is all that is left. Returns whether it did. A faster `take` for this
-    /// case.
+    /// Removes the line of the source and stores it in `line`, if nothing else is left. Returns whether a line was removed. This is a
+    /// faster `take` for that case.
     pub fn take_source_line(&mut self, line: &mut Line) -> bool
         ensures taken { result ≡ true → spec.Takes self.old.left self.new.left line.new (Some (LineOrEnd.Line false)) }
         ensures free { result ≡ true → self.new.has_statement ≡ false }
@@ -141,7 +141,8 @@ impl RemainingLines {
         }
     }
 
-    // Removes the line fed from the source; None if it has been read already. No expansion may be open.
+    // Removes the line fed from the source, and stores it in `line`; returns None if that line was removed before. No expansion may be
+    // open.
     fn take_fed(&mut self, line: &mut Line) -> Option<LineOrEnd>
         requires free { self.old.has_statement ≡ false }
         requires unexpanded { spec.is_expanding self.old.left ≡ false }
@@ -156,7 +157,8 @@ impl RemainingLines {
         Some(LineOrEnd::Line(false))
     }
 
-    // Removes the next line of the innermost expansion, or the expansion's end if no line of it is left.
+    // Removes the next line of the innermost expansion and stores it in `line`; or removes the end of the expansion, if none of its lines
+    // is left.
     fn take_expanded(&mut self, line: &mut Line) -> Option<LineOrEnd>
         requires free { self.old.has_statement ≡ false }
         requires expanded { spec.is_expanding self.old.left ≡ true }
@@ -261,7 +263,7 @@ fn has_frame(frames: &[Frame]) -> bool
     }
 }
 
-// The number of actuals of the innermost macro call: that of the last frame of a call, if there is one.
+// The number of actuals of the innermost macro call: that of the last frame that is a call; None if no frame is one.
 fn argument_count(frames: &[Frame]) -> Option<u16>
     ensures { result ≡ stack.count_from None frames.now }
 {

@@ -87,7 +87,7 @@ fn is_close(nesting: Nesting, depth: usize) -> bool
     depth == 0 && nesting == Nesting::Closes
 }
 
-// The number of bodies open inside a body after a line that doesn't close it. `lines` is the number of lines with this one, and is
+// The number of bodies open inside a body after a line that doesn't close it. `lines` is the number of lines, including this one; it is
 // greater than `depth`.
 fn depth_inside(nesting: Nesting, depth: usize, lines: usize) -> usize
     requires { depth < lines }

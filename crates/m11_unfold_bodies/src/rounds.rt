@@ -8,7 +8,7 @@ use std::alloc::Global;
 use std::collections::VecDeque;
 use std::marker::Model;
 
-/// The rounds of an expansion that are still to come.
+/// The remaining rounds of an expansion, including the current one.
 #[derive(Drop, Debug)]
 pub struct Rounds {
     // The number of rounds without actuals, such as those of a `.REPT`.
@@ -37,7 +37,7 @@ impl Rounds {
         }
     }
 
-    /// Rounds with these actuals, one item for each round.
+    /// Rounds with these actuals, one list of actuals for each round.
     pub fn listed(actuals: VecDeque<Texts>) -> Rounds
         ensures { result ≡ actuals.items }
     {

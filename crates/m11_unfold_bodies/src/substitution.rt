@@ -9,9 +9,9 @@ use crate::text::Text;
 use m11_base::Name;
 use m11_scan::{Class, Line, is_of, read_name, run_length};
 
-/// Stores in `line` a body's line as it is in one round of an expansion. A run of name characters whose first six are a formal's name
-/// is replaced by that formal's actual, together with one `'` directly before it and one directly after it. Characters past the
-/// 132nd are dropped.
+/// Stores in `line` a body's line as it is in one round of an expansion. A run of name characters whose first six are a formal's name is
+/// replaced by that formal's actual, if it has one, together with one `'` directly before the run and one directly after it, if present.
+/// Characters past the 132nd are dropped, and then the line is over-long.
 pub fn substitute(line: &mut Line, formals: &[Name], actuals: &[Text], text: &[u8])
     ensures { line.new ≡ spec.line_with formals.now actuals.now text.now }
 {
@@ -68,7 +68,7 @@ fn put_for<'a>(
     }
 }
 
-// The length of the first piece of a text: of a run of name characters, or 1 for another character.
+// The length of the first piece of a text: that of a run of name characters, or 1 if the text begins with another character.
 fn piece_length(text: &[u8]) -> usize
     requires { 0 < length text.now }
     ensures some { 0 < result }
@@ -90,7 +90,7 @@ fn is_quote(piece: &[u8]) -> bool
     }
 }
 
-// The actual that replaces a piece, if the piece is a run whose first six characters are a formal's name.
+// The actual that replaces a piece; None unless the piece is a run whose first six characters name a formal that has an actual.
 fn actual_for<'a>(formals: &[Name], actuals: &'a [Text], piece: &[u8]) -> Option<&'a [u8]>
     requires { 0 < length piece.now }
     ensures some { IfSome result (λ actual. spec.actual_for formals.now actuals.now (spec.piece_of piece.now) ≡ Some actual.now) }

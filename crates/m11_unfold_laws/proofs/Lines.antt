@@ -57,7 +57,7 @@ module _ (P : Stage → Type 0) (level : Level) (situation : Situation) (known :
   abbrev live : Live
   live = record { line = line; is_expanded = is_expanding left }
 
-  -- by the move that makes it live, and the effect of its operator
+  -- if the next move makes a line live, the line, followed by a run from the stage after its operator, is a run
   pub line_by : marks left ≡ level.around → move before ≡ Gives live here
       → acted_by known line.text here (operation_at level situation line) ≡ acted → Runs acted.after gives P
       → Runs before (shown level known line acted ∷ gives) P
@@ -76,7 +76,7 @@ module _ (P : Stage → Type 0) (level : Level) (situation : Situation) (known :
       (gives_line Q before here live known (shown level known line acted) acted moves acts same refl)
       (λ s is. from_same P s acted.after gives is next)
 
-  -- at a level whose lines are live
+  -- at a level whose lines are live, a line, followed by a run from the stage after its operator, is a run
   pub line_then : marks left ≡ level.around → is_live_inside level.entered ≡ true
       → acted_by known line.text here (operation_at level situation line) ≡ acted → Runs acted.after gives P
       → Runs before (shown level known line acted ∷ gives) P
@@ -86,7 +86,7 @@ module _ (P : Stage → Type 0) (level : Level) (situation : Situation) (known :
       (if not b then skipped_by (only_entered level.entered) (directive line.text) else None) line here) taking in
       line_by around moves acts next
 
--- ---- a word of the condition around the line
+-- ---- a directive of the condition around the line
 
 module _ (level : Level) (holds : Bool) (situation : Situation) (line : SourceLine) (left : List RemainingItem) where
   abbrev in_part : Bool → Situation → List RemainingItem → Stage

@@ -1,4 +1,4 @@
--- Lines read up to their end, or up to a word of the condition around them.
+-- Lines read up to their end, or up to a directive of the condition around them.
 use Rattle.std.proofs.Common.{◌≡◌, ◌∙◌, ℕ, suc, Bool, true, List, [], ◌∷◌, ◌++◌, append_assoc, append-nil, refl, sym, ap, subst}
 use Rattle.m11_scan.specs.Line.{SourceLine}
 use Rattle.m11_scan_expressions.specs.Expressions.{KnownSymbols}
@@ -16,12 +16,12 @@ use Rattle.m11_unfold_laws.specs.Shapes.{Begins, Ending, GoesOn, Parts, Shape, s
 use Rattle.m11_unfold_laws.specs.Shapes as shapes
 use Rattle.m11_unfold_laws.proofs.Resting.{Rested, lifted}
 
--- a word of the condition around the lines
+-- a directive of the condition around the lines: `.IFF`, `.IFT`, `.IFTF` or `.ENDC`
 pub data IsOwn : Operation → Type 0 where
   Begin : (operator : Operation) (part : Part) (at : ℕ) → Begins operator part at → IsOwn operator
   Close : (at : ℕ) → IsOwn (OwnDirective word.Endc at)
 
--- the remaining lines begin with such a word, or with an `.IIF` whose statement does
+-- the remaining lines begin with such a directive, or with an `.IIF` whose statement is one
 pub data Breaks (level : Level) : ℕ → Situation → SourceLine → List SourceLine → List RemainingItem → List UnfoldedLine → Type 0 where
   ByWord : (n : ℕ) (situation : Situation) (line : SourceLine) (others : List SourceLine) (left : List RemainingItem) (later : List UnfoldedLine)
       → IsOwn (operation_at level situation line) → Rested n (before_lines level situation (line ∷ others) left) later
@@ -56,7 +56,7 @@ lifted_stop level _ _ _ _ _ _ (Stop.Whole n situation ending left later stage th
 lifted_stop level _ _ _ _ _ _ (Stop.Broken n situation line others left later open' breaks) =
     Stop.Broken (suc n) situation line others left later open' (lifted_breaks level n situation line others left later breaks)
 
--- the first of the lines have a shape, with the first of the live lines
+-- the first lines have a shape with the first live lines, and reading stops before the other lines
 pub record Parsed (n : ℕ) (level : Level) (before : Situation) (lines : List SourceLine) (left : List RemainingItem)
     (gives : List UnfoldedLine) : Type 0 where
   pub taken : List SourceLine
@@ -70,7 +70,7 @@ pub record Parsed (n : ℕ) (level : Level) (before : Situation) (lines : List S
   pub shape : Shape level before taken first after ending
   pub stop : Stop level n after ending others left later
 
--- the same for the rest of a condition
+-- the first lines are the rest of a condition, with the first live lines, and reading stops before the other lines
 pub record PartsParsed (n : ℕ) (level : Level) (holds is_live : Bool) (before : Situation) (lines : List SourceLine)
     (left : List RemainingItem)
     (gives : List UnfoldedLine) : Type 0 where
@@ -85,7 +85,7 @@ pub record PartsParsed (n : ℕ) (level : Level) (holds is_live : Bool) (before 
   pub parts : Parts level holds is_live before taken first after ending
   pub stop : Stop level n after ending others left later
 
--- any lines can be read like this in so many moves
+-- any lines that unfold to the end in at most this many moves can be read in this way
 abbrev pub Reads : ℕ → Type 0
 Reads n = (level : Level) (before : Situation) (lines : List SourceLine) (left : List RemainingItem) (gives : List UnfoldedLine)
     → marks left ≡ level.around → is_live_inside level.entered ≡ true → after_mark left ≡ left
@@ -120,7 +120,7 @@ module _ (n : ℕ) (level : Level) (start before : Situation) (front lines : Lis
     stop = lifted_stop level n p.after p.ending p.others left p.later p.stop;
   }
 
--- all lines are read
+-- lines that have a shape, and lead to the stage after it, are read to their end
 pub all_taken : (n : ℕ) (level : Level) (before : Situation) (lines : List SourceLine) (left : List RemainingItem)
     (first later : List UnfoldedLine)
     (after : Situation) (ending : Ending) (stage : Stage) → Shape level before lines first after ending
@@ -138,7 +138,7 @@ all_taken n level before lines left first later after ending stage shaped there 
   stop = Stop.Whole n after ending left later stage there rested;
 }
 
--- equal live lines, and equal lines
+-- lines that are read with some live lines are read with equal live lines, and so are equal lines
 pub of_gives : (n : ℕ) (level : Level) (before : Situation) (lines : List SourceLine) (left : List RemainingItem)
     (gives others : List UnfoldedLine)
     → gives ≡ others → Parsed n level before lines left others → Parsed n level before lines left gives
@@ -151,7 +151,7 @@ pub of_lines : (n : ℕ) (level : Level) (before : Situation) (lines others : Li
 of_lines n level before lines others left gives same p
     = subst (λ (l : List SourceLine). Parsed n level before l left gives) (sym same) p
 
--- before a word nothing is read
+-- if lines begin with a directive of the condition around them, none of them is read
 pub broken : (n : ℕ) (level : Level) (before : Situation) (line : SourceLine) (lines : List SourceLine) (left : List RemainingItem)
     (gives : List UnfoldedLine)
     → (level.entered ≡ [] → ⊥) → Breaks level n before line lines left gives → Parsed n level before (line ∷ lines) left gives

@@ -27,7 +27,7 @@ use Rattle.m11_unfold_laws.specs.Putting as putting
 use Rattle.m11_unfold_laws.specs.Shapes.{IsOther, IsText, Parts, Shape, is_plain}
 use Rattle.m11_unfold_laws.specs.Shapes as shapes
 
--- the same with another count of lines
+-- a shape stays one if the count of lines after it is replaced by an equal number
 recounted : (level : Level) (before after : Situation) (one other : ℕ) (lines : List SourceLine) (gives : List UnfoldedLine)
     → one ≡ other
     → Shape level before lines gives (record after { taken = one }) shapes.Ending.GoesOn

@@ -41,7 +41,7 @@ use Rattle.m11_unfold_laws.proofs.Words.{astray_acts, opens_acts, other_acts}
 
 -- ---- facts
 
--- no lines yield nothing
+-- a shape of no lines has no live lines, changes nothing, and goes on
 none_of : (level : Level) (before after : Situation) (ending : Ending) (gives : List UnfoldedLine) (lines : List SourceLine)
     → Shape level before lines gives after ending → lines ≡ [] → (gives ≡ []) × (after ≡ before) × (ending ≡ GoesOn)
 none_of _ _ _ _ _ _ (shapes.Shape.Nothing level before) none = (refl, refl, refl)
@@ -73,7 +73,7 @@ none_of _ _ _ _ _ _ (shapes.Shape.Immediate level before after ending known line
 none_of _ _ _ _ _ _ (shapes.Shape.Exit level before known line lines at is expanding) none = absurd (let bad = none in cc)
 none_of _ _ _ _ _ _ (shapes.Shape.End level before known line lines at is) none = absurd (let bad = none in cc)
 
--- lines of an expansion don't end at a condition around it
+-- if no condition is open around lines in their expansion, reading stops only after all of them
 pub whole_stop : (level : Level) (n : ℕ) (situation : Situation) (ending : Ending) (others : List SourceLine) (left : List RemainingItem)
     (later : List UnfoldedLine) → level.entered ≡ [] → Stop level n situation ending others left later
     → (others ≡ []) × Onward (Arrived ending level situation left) n later
@@ -81,7 +81,7 @@ whole_stop level _ _ _ _ _ _ none (Stop.Whole n situation ending left later stag
     (refl, record { stage = stage; holds = there; next = rested })
 whole_stop level _ _ _ _ _ _ none (Stop.Broken n situation line others left later inside breaks) = absurd (inside none)
 
--- a stop before lines is a break
+-- if reading stops before further lines, these begin with a directive of the condition around them, or an `.IIF` whose statement is one
 stop_breaks : (level : Level) (n : ℕ) (situation : Situation) (ending : Ending) (others : List SourceLine) (left : List RemainingItem)
     (later : List UnfoldedLine) (line : SourceLine) (lines : List SourceLine) → Stop level n situation ending others left later
     → others ≡ line ∷ lines → (level.entered ≡ [] → ⊥) × Breaks level n situation line lines left later
@@ -125,7 +125,7 @@ module _ (n : ℕ) (again : Reads n) (again_parts : ReadsParts n) (level : Level
   abbrev Result : List SourceLine → Type 0
   Result lines = Parsed (suc n) level before (line ∷ lines) left gives
 
-  -- the line, by the effect of its operator
+  -- the line is the first live line, and the others follow from the effect of its operator
   acted_line : (lines : List SourceLine) (acted : KnownSymbols → Acted)
       → ((known : KnownSymbols) → acted_by known line.text (here lines) (operation_at level before line) ≡ acted known) → Walk lines
       → LineGiven n (λ known. shown level known line (acted known)) (λ known. (acted known).after) gives
@@ -496,7 +496,7 @@ module _ (n : ℕ) (again : Reads n) (again_parts : ReadsParts n) (level : Level
       there
       (shapes.Shape.End level before g.known line lines at is) refl (lifted n there g.more g.next))
 
-  -- ---- a word of a condition
+  -- ---- a directive of a condition
 
   own_word : (lines : List SourceLine) (remarks : Remarks) (entered : List OpenCondition) → level.entered ≡ entered
       → IsOwn (operation_at level before line)

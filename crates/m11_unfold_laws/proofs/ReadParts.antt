@@ -30,7 +30,7 @@ use Rattle.m11_unfold_laws.proofs.Words.{begins_acts, close_acts}
 
 -- ---- after a part
 
--- a part, and what is read from the word after it
+-- a part, the directive after it, and what is read after that directive
 pub record AfterPart (n : ℕ) (level : Level) (holds is_live : Bool) (before : Situation) (lines : List SourceLine)
     (first : List UnfoldedLine)
     (line : SourceLine) (others : List SourceLine) (left : List RemainingItem) (gives : List UnfoldedLine) : Type 0 where
@@ -45,7 +45,7 @@ pub record AfterPart (n : ℕ) (level : Level) (holds is_live : Bool) (before : 
   pub parts : Parts level holds is_live before (lines ++ line ∷ taken) (first ++ more) after ending
   pub stop : Stop level n after ending rest left later
 
--- reading from a word on, in so many moves
+-- after a part, lines that begin with a directive of the condition can be read, if they unfold to the end in at most this many moves
 abbrev pub ReadsWord : ℕ → Type 0
 ReadsWord n = (level : Level) (holds is_live : Bool) (before middle : Situation) (lines : List SourceLine) (first : List UnfoldedLine)
     (line : SourceLine) (others : List SourceLine) (left : List RemainingItem) (gives : List UnfoldedLine)
@@ -168,7 +168,7 @@ word_more n reads reads_parts level holds is_live before middle lines first line
 
 module _ (n : ℕ) (reads : Reads n) (reads_word : ReadsWord n) (level : Level) (holds : Bool) (left : List RemainingItem)
     (around : marks left ≡ level.around) (taking : is_live_inside level.entered ≡ true) (ends : after_mark left ≡ left) where
-  -- a live part up to a word, or up to an `.IIF` with one
+  -- after a live part, lines that begin with a directive of the condition, or with an `.IIF` whose statement is one, can be read
   breaks_more : (k : ℕ) (middle : Situation) (line : SourceLine) (others : List SourceLine) (left' : List RemainingItem)
       (later : List UnfoldedLine)
       → Breaks (within_condition holds true level) k middle line others left' later → k ≡ n → left' ≡ left → (before : Situation)
@@ -201,7 +201,7 @@ module _ (n : ℕ) (reads : Reads n) (reads_word : ReadsWord n) (level : Level) 
         stop = p.stop;
       }
 
-  -- the part, and the lines after it
+  -- a part and the lines read after it are read together as the rest of a condition
   joined : (is_live : Bool) (before : Situation) (lines : List SourceLine) (first : List UnfoldedLine) (line : SourceLine)
       (others : List SourceLine)
       (later : List UnfoldedLine) → AfterPart n level holds is_live before lines first line others left later
@@ -219,7 +219,7 @@ module _ (n : ℕ) (reads : Reads n) (reads_word : ReadsWord n) (level : Level) 
     stop = p.stop;
   }
 
-  -- a live part
+  -- a live part, up to where reading stops, and the lines read after it are the rest of a condition
   after_live : (before : Situation) (lines : List SourceLine) (first later : List UnfoldedLine) (after : Situation) (ending : Ending)
       (others : List SourceLine) (left' : List RemainingItem) (k : ℕ)
       → Stop (within_condition holds true level) k after ending others left' later → k ≡ n → left' ≡ left
@@ -256,7 +256,7 @@ module _ (n : ℕ) (reads : Reads n) (reads_word : ReadsWord n) (level : Level) 
       (subst (λ (gs : List UnfoldedLine). PartsParsed n level holds true before (p.taken ++ p.others) left gs) (sym p.gives_are)
       (after_live before p.taken p.first p.later p.after p.ending p.others left n p.stop refl refl p.shape))
 
-  -- text
+  -- a directive that ends the skipped text of a part is one of the condition
   own_of : (middle : Situation) (line : SourceLine) (it : Option Directive) → IsOwnWord false it → directive line.text ≡ it
       → IsOwn (operation_at (within_condition holds false level) middle line)
   own_of middle line _ IsOwnWord.EndCondition is =

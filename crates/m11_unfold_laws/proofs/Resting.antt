@@ -1,4 +1,4 @@
--- An unfolding to the stage where nothing is left, from its first move on.
+-- An unfolding to the stage where nothing is left, move by move.
 use Rattle.std.proofs.Common.{◌≡◌, ◌∙◌, ℕ, zero, suc, Bool, true, List, [], ◌∷◌, ◌++◌, append_assoc, append-nil, None, inl, inr, refl, sym, ap, subst}
 use Rattle.std.specs.Prelude.{not, if◌then◌else◌}
 use Rattle.m11_scan.specs.Line.{SourceLine}
@@ -20,7 +20,7 @@ use Rattle.m11_unfold_laws.proofs.Lines.{shown}
 use Rattle.m11_unfold_laws.proofs.Runs.{Runs}
 use Rattle.m11_unfold_laws.proofs.Wholes.{no_limit_at_rest, no_line, no_pass}
 
--- in at most so many moves, with these live lines
+-- nothing is left after at most this many moves, by which these lines become live
 pub data Rested : ℕ → Stage → List UnfoldedLine → Type 0 where
   AtRest : (n : ℕ) (stage : Stage) → move stage ≡ NothingLeft → Rested n stage []
   Passing : (n : ℕ) (stage after : Stage) (gives : List UnfoldedLine) → next_fault stage ≡ None → move stage ≡ Passes after
@@ -146,7 +146,7 @@ module _ (n : ℕ) (level : Level) (situation : Situation) (line : SourceLine) (
   abbrev live : Live
   live = record { line = line; is_expanded = is_expanding left }
 
-  -- by the move that makes it live, and the effect of its operator
+  -- if the next move makes a line live, it is the first live line, and the others follow from the effect of its operator
   pub line_given : (acted : KnownSymbols → Acted) → marks left ≡ level.around
       → move (stage_of level situation (Line line ∷ left)) ≡ Gives live here
       → ((known : KnownSymbols) → acted_by known line.text here (operation_at level situation line) ≡ acted known)
@@ -175,7 +175,7 @@ module _ (n : ℕ) (level : Level) (situation : Situation) (line : SourceLine) (
       ap (λ (b : Bool). live_or_skipped (if not b then skipped_by (only_entered level.entered) (directive line.text) else None)
       line here) taking
 
--- the same in any number of moves
+-- if the next move makes a line live, it is the first live line, whatever the number of moves is
 pub given_next : (n : ℕ) (stage : Stage) (gives : List UnfoldedLine) → Rested n stage gives → (after : Stage) (live : Live)
     → move stage ≡ Gives live after
     → LineGiven n (λ known. given known live after) (λ known. (act known after live.line.text).after) gives
@@ -189,7 +189,7 @@ given_next (suc n) stage gives rested after live moves =
       next = lifted n (act first.known after live.line.text).after first.more first.next;
     }
 
--- the stage that a run without live lines reaches
+-- a stage with this property, from which these lines become live before nothing is left
 pub record Onward (P : Stage → Type 0) (n : ℕ) (gives : List UnfoldedLine) : Type 0 where
   pub stage : Stage
   pub holds : P stage

@@ -22,7 +22,7 @@ Runs before gives P = Arrives before gives P ⊎ IsCutShort before gives
 pub stays : (P : Stage → Type 0) (stage : Stage) → P stage → Runs stage [] P
 stays P stage holds = inl (record { stage = stage; leads = steps.Leads.Stays; holds = holds })
 
--- one run after another
+-- a run followed by another run is a run
 pub and_then : (P Q : Stage → Type 0) (before : Stage) (gives later : List UnfoldedLine) → Runs before gives P
     → ((stage : Stage) → P stage → Runs stage later Q) → Runs before (gives ++ later) Q
 and_then P Q before gives later (inr short) next = inr (record {
@@ -49,21 +49,21 @@ and_then P Q before gives later (inl here) next = joined (next here.stage here.h
     passes = short.passes;
   })
 
--- the same from an equal stage
+-- a run from a stage is also a run from an equal stage
 pub from_same : (P : Stage → Type 0) (one other : Stage) (gives : List UnfoldedLine) → one ≡ other → Runs other gives P
     → Runs one gives P
 from_same P one other gives same runs =
     let Q : Stage → Type 0 = λ s. Runs s gives P in
     subst Q (sym same) runs
 
--- the same with a weaker fact
+-- a run that reaches a stage with one property reaches one with any property that follows from it
 pub weakened : (P Q : Stage → Type 0) (before : Stage) (gives : List UnfoldedLine) → ((stage : Stage) → P stage → Q stage)
     → Runs before gives P → Runs before gives Q
 weakened P Q before gives next (inl here)
     = inl (record { stage = here.stage; leads = here.leads; holds = next here.stage here.holds })
 weakened P Q before gives next (inr short) = inr short
 
--- a move by which no line becomes live
+-- a move by which no line becomes live is a run without live lines
 pub passes : (P : Stage → Type 0) (before after : Stage) → move before ≡ Passes after → P after → Runs before [] P
 passes P before after moves holds = by_fault (next_fault before) refl where
   by_fault : (fault : Option UnfoldFault) → next_fault before ≡ fault → Runs before [] P
@@ -81,7 +81,7 @@ passes P before after moves holds = by_fault (next_fault before) refl where
     passes = PassesLimit.Taking fault is;
   })
 
--- a line that becomes live, and the effect of its operator
+-- a move by which a line becomes live, and the execution of its operator, are a run with this live line
 pub gives_line : (P : Stage → Type 0) (before after : Stage) (live : Live) (known : KnownSymbols) (one : UnfoldedLine) (acted : Acted)
     → move before ≡ Gives live after → act known after live.line.text ≡ acted → given known live after ≡ one → P acted.after
     → Runs before (one ∷ []) P
@@ -111,14 +111,14 @@ gives_line P before after live known one acted moves acts shown holds =
         holds = stands;
       })
 
--- a move by which no line becomes live, and a run from there
+-- a move by which no line becomes live, followed by a run, is a run with the same live lines
 pub passes_on : (P : Stage → Type 0) (before after : Stage) (gives : List UnfoldedLine) → move before ≡ Passes after → Runs after gives P
     → Runs before gives P
 passes_on P before after gives moves runs =
     and_then (λ s. s ≡ after) P before [] gives (passes (λ s. s ≡ after) before after moves refl)
     (λ s is. from_same P s after gives is runs)
 
--- a run that reaches a single stage
+-- a run that can reach only one stage leads to that stage, or is cut short
 pub arrived : (before after : Stage) (gives : List UnfoldedLine) → Runs before gives (λ s. s ≡ after)
     → Leads before gives after ⊎ IsCutShort before gives
 arrived before after gives (inl there) = inl (subst (λ (s : Stage). Leads before gives s) there.holds there.leads)

@@ -115,12 +115,12 @@ module _ (level : Level) (before : Situation) (known : KnownSymbols) (line : Sou
     abbrev here : Stage
     here = stage_of level (counting 1 before) rest
 
-    -- the lines in its place, and the end of the expansion
+    -- the stage with the lines of an expansion in place of its line, and the end of the expansion after them
     abbrev pub put_there : Put → Stage
     put_there put = stage_of (within_expansion put.arguments put.bytes level) put.situation
         (map line_left put.lines ++ End (mark_at level put.arguments put.bytes) ∷ (map line_left put.others ++ left))
 
-    -- an expansion replaces the line before what is left
+    -- the line becomes live, and its expansion replaces it
     abbrev Stands : Put → Type 0
     Stands put = Runs (stage_of level before (Line line ∷ rest)) (own_line level known line put.remarks ∷ []) (λ s. s
         ≡ put_there put)
@@ -182,7 +182,7 @@ module _ (level : Level) (before : Situation) (known : KnownSymbols) (line : Sou
         repeat_stands remarks formals rounds body others
         (subst (λ (o : Operation). Opens known line.text o remarks (Repeats formals rounds)) (sym is) opened) has around taking
 
--- the stage after an expansion
+-- from the stage after the lines of an expansion, a run without live lines leads out of the expansion
 pub returned : (level : Level) (middle : Situation) (arguments : Option ℕ) (bytes : ℕ) (left : List RemainingItem) (inner : Ending)
     (stage : Stage)
     → Returns inner → Arrived inner (within_expansion arguments bytes level) middle (End (mark_at level arguments bytes) ∷ left)
@@ -312,7 +312,7 @@ module _ (P : Stage → Type 0) (level : Level) (before : Situation) (known last
       (same_marks (text ++ close ∷ lines) left ∙ around) taking
       (if_acts level before known line rest at false is (same_marks (text ++ close ∷ lines) left ∙ around) none) further
 
--- a part, and then a word of the condition
+-- a part, and then a directive of the condition
 module _ (P : Stage → Type 0) (level : Level) (holds is_live : Bool) (before middle : Situation) (known : KnownSymbols)
     (line : SourceLine)
     (lines others : List SourceLine) (gives later : List UnfoldedLine) (remarks : Remarks) (left : List RemainingItem) where

@@ -28,7 +28,7 @@ use Rattle.m11_unfold_laws.specs.Shapes as shapes
 
 -- ---- bodies
 
--- a body and its close, and the lines after it
+-- lines begin with a body and its closing line, and other lines follow
 pub record BodySplit (lines : List SourceLine) (depth : ℕ) : Type 0 where
   pub body : List Bytes
   pub front : List SourceLine
@@ -76,14 +76,14 @@ body_split (line ∷ lines) depth closed =
 
 -- ---- text
 
--- a word that belongs to the condition whose lines are skipped
+-- a directive that belongs to the condition whose lines are skipped
 pub data IsOwnWord (is_past : Bool) : Option Directive → Type 0 where
   EndCondition : IsOwnWord is_past (Some word.Endc)
   IfFalse : is_past ≡ false → IsOwnWord is_past (Some word.Iff)
   IfTrue : is_past ≡ false → IsOwnWord is_past (Some word.Ift)
   IfTrueFalse : is_past ≡ false → IsOwnWord is_past (Some word.Iftf)
 
--- text up to the end, or up to such a word
+-- lines are text to their end, or up to such a directive
 pub data TextSplit (is_past : Bool) : ℕ → List SourceLine → Type 0 where
   All : (inner last : ℕ) (lines : List SourceLine) → IsText is_past inner lines last → TextSplit is_past inner lines
   UpTo : (inner : ℕ) (text : List SourceLine) (line : SourceLine) (others : List SourceLine) → IsText is_past inner text 0

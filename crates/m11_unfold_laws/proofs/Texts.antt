@@ -20,11 +20,11 @@ module _ (is_past : Bool) (level : Level) where
   abbrev skipping : ℕ → OpenConditions
   skipping inner = record { entered = level.entered; nested = inner; is_past = is_past }
 
-  -- some inner conditions are open in the text
+  -- the stage in skipped text with this many inner conditions open
   abbrev pub text_stage : ℕ → Situation → List RemainingItem → Stage
   text_stage inner situation left = record (stage_of level situation left) { conditions = skipping inner }
 
-  -- ---- words
+  -- ---- directives
 
   bad : {A : Type 0} → false ≡ true → A
   bad is = absurd (let no : false ≡ true = is in cc)

@@ -31,7 +31,8 @@ abbrev by_taking : KnownSymbols → Stage → (Stage → Option Walk) → Option
 by_taking known stage more (Some fault) = None
 by_taking known stage more None = by_move known stage more (move stage)
 
--- the live lines of so many moves, up to the stage where nothing is left
+-- the live lines up to the stage where nothing is left, and this stage; None if a limit is exceeded first, or if it takes more moves than
+-- this
 abbrev pub walk : ℕ → KnownSymbols → Stage → Option Walk
 walk zero known stage = None
 walk (suc n) known stage = by_taking known stage (λ after. walk n known after) (next_fault stage)

@@ -1,4 +1,4 @@
--- The stage that the lines of a shape lead to; and a source has no other live lines.
+-- The stage that the lines of a shape lead to, and that a source has no other live lines.
 use Rattle.std.proofs.Common.{◌≡◌, ◌∙◌, ◌⊎◌, inl, inr, Bool, true, false, List, [], ◌∷◌, ◌++◌, map, append_assoc, append-nil, Option, Some, None, refl, sym, ap, subst}
 use Rattle.std.specs.Prelude.{ℕ, if◌then◌else◌}
 use Rattle.m11_scan.specs.Line.{SourceLine}
@@ -112,7 +112,7 @@ module _ (before : Stage) where
       = ap (λ (s : Stage). act_fault s live'.line.text) same_stage ∙ ap (λ (l : Live). act_fault after l.line.text) same_live in
       absurd (let bad : Some fault ≡ None = sym acts' ∙ same ∙ acts in cc)
 
-  -- there is no further move
+  -- at a limit there is no further move
   stays_short : (done : List UnfoldedLine) (after : Stage) → PassesLimit before → Leads before done after
       → (done ≡ []) × (after ≡ before)
   stays_short _ _ passed steps.Leads.Stays = (refl, refl)
@@ -125,7 +125,7 @@ module _ (before : Stage) where
       absurd (no_line after live passed (subst (λ (s : Stage). next_fault s ≡ None) earlier.1 fault)
       (subst (λ (s : Stage). move s ≡ Gives live after) earlier.1 moves) acts)
 
--- if nothing is left, no limit is passed
+-- if nothing is left, no limit is exceeded
 pub no_limit_at_rest : (stage : Stage) → move stage ≡ NothingLeft → PassesLimit stage → ⊥
 no_limit_at_rest stage rests (limits.PassesLimit.Acting fault live there is gives acts) =
     absurd (let bad : Gives live there ≡ NothingLeft = sym gives ∙ rests in cc)

@@ -1,4 +1,4 @@
--- The effects of the words of a shape at a stage.
+-- The effects of the directives of a shape at a stage.
 use Rattle.std.proofs.Common.{◌≡◌, ◌∙◌, ℕ, Bool, false, List, [], length, refl, ap, arith}
 use Rattle.std.specs.Prelude.{◌==◌, if◌then◌else◌}
 use Rattle.std.proofs.lemmas.Bool.Decides.{nat_tests}
@@ -33,7 +33,7 @@ opens_acts known text stage _ _ _ (putting.Opens.Repeat column) = refl
 opens_acts known text stage _ _ _ (putting.Opens.IndefiniteRepeat column) = refl
 opens_acts known text stage _ _ _ (putting.Opens.CharacterRepeat column) = refl
 
--- ---- astray
+-- ---- directives out of place
 
 module _ (known : KnownSymbols) (text : Bytes) (level : Level) (situation : Situation) (left : List RemainingItem) where
   abbrev stage : Stage
@@ -63,7 +63,7 @@ module _ (known : KnownSymbols) (text : Bytes) (level : Level) (situation : Situ
       ap (λ (e : List OpenCondition). if length e == 0 then own (flagged flag_O text at) stage
       else own (flagged 0 text at) (record stage { conditions = closed (only_entered level.entered) })) none
 
--- ---- the words of a condition
+-- ---- the directives of a condition
 
 module _ (known : KnownSymbols) (text : Bytes) (level : Level) (holds is_live : Bool) (situation : Situation) (left : List RemainingItem) where
   abbrev inside : Stage

@@ -12,7 +12,8 @@ with_body purpose taken stage = record stage {
   has_ended = false;
 }
 
--- the rest of the body, by nesting alone: its lines up to the line that closes it, the end of an expansion or the end of what is left
+-- the rest of the body, by nesting alone: its lines before the closing line, the end of an expansion or the end of what is left, whichever
+-- comes first
 abbrev pub rest_of_body : PartialBody → Stage → Cut
 rest_of_body taken stage = cut_at nesting taken.depth stage.left
 
@@ -25,7 +26,7 @@ past_body cut stage = record stage {
   has_ended = false;
 }
 
--- the stage after the lines of a body that isn't closed
+-- the stage after the lines of a body that isn't closed, with the body itself discarded
 abbrev pub past_open_body : Cut → Stage → Stage
 past_open_body cut stage = record stage {
   left = cut.after;

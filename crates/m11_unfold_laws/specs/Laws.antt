@@ -19,7 +19,7 @@ pub record IsAtLevel (level : Level) (left : List RemainingItem) : Type 0 where
 abbrev pub before_lines : Level → Situation → List SourceLine → List RemainingItem → Stage
 before_lines level situation lines left = stage_of level situation (map line_left lines ++ left)
 
--- the stage after lines whose ending is `Stops`; some conditions and a body may be open
+-- this is the stage after lines whose ending is `Stops`; some conditions and a body may be open
 pub record IsStopped (situation : Situation) (left : List RemainingItem) (stage : Stage) : Type 0 where
   pub conditions : OpenConditions
   pub opening : Option Opening
@@ -34,7 +34,7 @@ pub record IsStopped (situation : Situation) (left : List RemainingItem) (stage 
     has_ended = false;
   }
 
--- the stage after lines, depending on their ending
+-- this is the stage after lines with this ending
 abbrev pub Arrived : Ending → Level → Situation → List RemainingItem → Stage → Type 0
 Arrived GoesOn level after left stage = stage ≡ stage_of level after left
 Arrived Stops level after left stage = IsStopped after left stage

@@ -20,9 +20,9 @@ use Rattle.m11_unfold_rules.specs.Unfolding.{UnfoldedLine}
 
 -- the level of nesting of lines
 pub record Level : Type 0 where
-  -- the expansions open around them, the innermost first
+  -- the expansions open around the lines, the innermost first
   pub around : List Mark
-  -- the open conditions around them in the innermost expansion, the innermost first
+  -- the conditions of the innermost expansion that are open around the lines, the innermost first
   pub entered : List OpenCondition
 
 -- the state that the earlier lines leave
@@ -36,7 +36,7 @@ pub record Situation : Type 0 where
   -- the number of lines read
   pub taken : ℕ
 
--- the level of a source, outside all expansions and conditions, and the situation before its first line, in which nothing is defined
+-- the level of a source, outside all expansions and conditions; and the situation before its first line, with no macro defined
 abbrev pub source_level : Level
 source_level = record { around = []; entered = [] }
 
@@ -56,7 +56,7 @@ defining name formals body situation = record situation {
 
 -- ---- conditions
 
--- these conditions are open; no `.IF` is open among skipped lines, and no condition beyond the limit is skipped
+-- conditions of which just these are open: no `.IF` is open among skipped lines, and no condition beyond the limit is being skipped
 abbrev pub only_entered : List OpenCondition → OpenConditions
 only_entered entered = record { entered = entered; nested = 0; is_past = false }
 

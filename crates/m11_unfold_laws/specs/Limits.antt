@@ -7,7 +7,7 @@ use Rattle.m11_unfold_rules.specs.Taking.{Gives, Live, move}
 use Rattle.m11_unfold_rules.specs.Unfolding.{UnfoldedLine, Leads}
 use Rattle.m11_unfold_rules.specs.declared.fault.UnfoldFault.{UnfoldFault}
 
--- the next move exceeds a limit, or the operator of the line that it makes live does
+-- the next move exceeds a limit, or the operator of the line that becomes live by this move does
 pub data PassesLimit (stage : Stage) : Type 0 where
   Taking : (fault : UnfoldFault) → next_fault stage ≡ Some fault → PassesLimit stage
   Acting : (fault : UnfoldFault) (live : Live) (after : Stage) → next_fault stage ≡ None → move stage ≡ Gives live after

@@ -24,7 +24,7 @@ use Rattle.m11_unfold_laws.specs.Levels.{Situation, counting}
 
 -- ---- bodies
 
--- lines begin with a body and the line that closes it, by nesting alone; the other lines follow
+-- these lines begin with this body and the line that closes it, by nesting alone; the other lines follow
 abbrev pub HasBody : List SourceLine → List Bytes → List SourceLine → Type 0
 HasBody lines body others =
     body_of nesting (map line_left lines) ≡ record { body = body; is_closed = true; after = map line_left others }
@@ -33,7 +33,7 @@ HasBody lines body others =
 abbrev pub HasNoClose : List SourceLine → Type 0
 HasNoClose lines = (body_of nesting (map line_left lines)).is_closed ≡ false
 
--- a line opens a body: its flags and symbols, and the purpose of the body
+-- a line opens a body; these are the line's flags and symbols, and the purpose of the body
 pub data Opens (known : KnownSymbols) (text : Bytes) : Operation → Remarks → Purpose → Type 0 where
   -- `.MACRO`; the body is discarded if the name is missing or bad
   Macro : (column : ℕ)

@@ -25,7 +25,7 @@ use Rattle.m11_unfold_laws.specs.Putting.{HasBody, HasNoClose, Opens, Put, Puts}
 
 -- how lines end
 pub data Ending : Type 0 where
-  -- all are read, and no body or condition opened in them is still open
+  -- all these lines are read, and no body or condition that they open is still open
   GoesOn : Ending
   -- the expansion or the source ends with them: at a `.MEXIT`, or with a body or a condition open
   Stops : Ending
@@ -46,20 +46,20 @@ unclosed Ends = Ends
 
 -- ---- directives
 
--- an operator that doesn't belong to unfolding; `.NARG` and `.NCHR` are such operators here
+-- the operator doesn't belong to unfolding; `.NARG` and `.NCHR` are such operators here
 pub data IsOther : Operation → Type 0 where
   Other : IsOther Foreign
   ArgumentCount : (column : ℕ) → IsOther (OwnDirective word.Narg column)
   CharacterCount : (column : ℕ) → IsOther (OwnDirective word.Nchr column)
 
--- a directive that begins a part of a condition
+-- a directive whose name ends at this column begins this part of a condition
 pub data Begins : Operation → Part → ℕ → Type 0 where
   IfFalse : (column : ℕ) → Begins (OwnDirective word.Iff column) part.False column
   IfTrue : (column : ℕ) → Begins (OwnDirective word.Ift column) part.True column
   IfTrueFalse : (column : ℕ) → Begins (OwnDirective word.Iftf column) part.Both column
 
--- a directive out of place: `.ENDM` or `.ENDR` with no open body, a switch or `.ENDC` with no open condition in the expansion,
--- and `.MEXIT` outside all expansions; its line is flagged O
+-- a directive is out of place: `.ENDM` or `.ENDR` with no open body, a switch or `.ENDC` with no open condition in the expansion, or
+-- `.MEXIT` outside all expansions; its line is flagged O
 pub data IsAstray (level : Level) (text : Bytes) : Operation → Remarks → Type 0 where
   EndMacro : (at : ℕ) → IsAstray level text (OwnDirective word.Endm at) (remarks_of flag_O [])
   EndRepeat : (at : ℕ) → IsAstray level text (OwnDirective word.Endr at) (remarks_of flag_O [])
@@ -70,8 +70,8 @@ pub data IsAstray (level : Level) (text : Bytes) : Operation → Remarks → Typ
 
 -- ---- skipped text
 
--- whether a skipped line changes nothing: it has no directive, or any but `.IF`, `.ENDC` and the switches of the skipped condition; in a
--- condition beyond the limit no switch changes anything
+-- whether a skipped line changes nothing: it has no directive, or any directive but `.IF`, `.ENDC` and the switches of the skipped
+-- condition; in a condition beyond the limit no switch changes anything
 abbrev pub is_plain : Bool → ℕ → Option Directive → Bool
 is_plain is_past inner (Some word.If) = false
 is_plain is_past inner (Some word.Endc) = false
@@ -81,7 +81,8 @@ is_plain is_past inner (Some word.Iftf) = is_past || not (inner == 0)
 is_plain is_past inner (Some other) = true
 is_plain is_past inner None = true
 
--- lines skipped as text, in which only `.IF` and `.ENDC` matter; the numbers are those of inner conditions open before and after
+-- these lines are skipped as text, in which only `.IF` and `.ENDC` matter; the numbers say how many inner conditions are open before and
+-- after them
 pub data IsText (is_past : Bool) : ℕ → List SourceLine → ℕ → Type 0 where
   Nothing : (inner : ℕ) → IsText is_past inner [] inner
   Plain : (inner last : ℕ) (line : SourceLine) (lines : List SourceLine) → is_plain is_past inner (directive line.text) ≡ true
@@ -93,7 +94,7 @@ pub data IsText (is_past : Bool) : ℕ → List SourceLine → ℕ → Type 0 wh
 
 -- ---- `.IIF`
 
--- the statement of an `.IIF`, as the next line, if its condition is true and it has one; otherwise nothing
+-- the statement of an `.IIF`, as the next line, if the condition is true and the `.IIF` has a statement; otherwise nothing
 abbrev pub statement_of : Bytes → Bool → Option ℕ → List SourceLine
 statement_of text true (Some column) = line_of (drop column text) ∷ []
 statement_of text true None = []
@@ -187,10 +188,10 @@ mutual
         → operation_at level before line ≡ OwnDirective word.End at
         → Shape level before (line ∷ lines) (other_line level known line ∷ []) (counting 1 before) Ends
 
-  -- the rest of a condition, from one of its parts on, and the lines after the condition; the first Boolean says whether the condition
-  -- is true, and the second whether that part is live
+  -- the rest of a condition, beginning with one of its parts, and the lines after the condition; the first Boolean says whether the
+  -- condition is true, and the second whether that part is live
   pub data Parts : Level → Bool → Bool → Situation → List SourceLine → List UnfoldedLine → Situation → Ending → Type 0 where
-    -- the part, an `.IFF`, `.IFT` or `.IFTF`, and the next part
+    -- the part, then a switch (`.IFF`, `.IFT` or `.IFTF`), then what follows, beginning with the next part
     Next : (level : Level) (holds is_live : Bool) (before middle after : Situation) (ending : Ending) (known : KnownSymbols)
         (line : SourceLine) (lines others : List SourceLine) (gives later : List UnfoldedLine) (part : Part) (at : ℕ)
         → OnePart level holds is_live before lines gives middle GoesOn
@@ -198,7 +199,7 @@ mutual
         → Parts level holds (is_live_in part holds) (counting 1 middle) others later after ending
         → Parts level holds is_live before (lines ++ line ∷ others)
         (gives ++ own_line level known line (flagged 0 line.text at) ∷ later) after ending
-    -- the part, the `.ENDC`, and the lines after it
+    -- the part, then the `.ENDC`, then the lines after it
     Close : (level : Level) (holds is_live : Bool) (before middle after : Situation) (ending : Ending) (known : KnownSymbols)
         (line : SourceLine) (lines others : List SourceLine) (gives later : List UnfoldedLine) (at : ℕ)
         → OnePart level holds is_live before lines gives middle GoesOn

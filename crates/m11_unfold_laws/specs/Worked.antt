@@ -36,8 +36,8 @@ worked_line stands_for text is_own is_expanded arguments = record {
   arguments = arguments;
 }
 
--- a line of the source itself, which belongs to unfolding; the next two definitions make lines of the expansion of a call without
--- actuals: the `.REPT` line, and lines that don't belong to unfolding
+-- a line of the source itself, which belongs to unfolding; the next two definitions are for lines in the expansion of a call without
+-- actuals: the `.REPT` line, and a line that doesn't belong to unfolding
 abbrev pub source_line : (Symbol → Quantity) → Bytes → UnfoldedLine
 source_line stands_for text = worked_line stands_for text true false None
 

@@ -1,5 +1,5 @@
-//! Instances of shapes: blocks without others inside, and a source worked out by hand. Each law is the contract of a function
-//! with an empty body.
+//! Instances of shapes: blocks without other blocks inside, and a source worked out by hand. Each law is the contract of a function with an
+//! empty body.
 
 ghost use Rattle.std.specs.Prelude.{◌≡◌, ◌+◌, ◌++◌, ◌∷◌, ℕ, List, [], true, false, None, Some, length, map};
 ghost use Rattle.m11_unfold_rules.specs.Actuals.{actuals_from};
@@ -33,9 +33,9 @@ pub fn other_lines_have_a_shape()
         → Shape level before lines (map (other_line level known) lines) (counting (length lines) before) GoesOn }
 {}
 
-/// The block of a `.REPT`, `.IRP` or `.IRPC` has a shape if its body has no other body inside, and no line of its rounds has a
-/// macro call, a directive of conditions, repeats or macros, or `.END` as its operator. The line of the directive becomes live, and
-/// then the lines of the rounds.
+/// The block of a `.REPT`, `.IRP` or `.IRPC` has a shape if its body has no other body inside, and no line of its rounds has a macro call,
+/// a directive for conditions, repeats or macros, or `.END` as its operator. The line of the directive becomes live, and then the lines of
+/// the rounds.
 pub fn repeats_have_a_shape()
     ensures { (known : KnownSymbols) (level : Level) (before : Situation) (first close : SourceLine) (lines : List SourceLine)
         (remarks : Remarks)
@@ -51,8 +51,8 @@ pub fn repeats_have_a_shape()
         (counting (length lines + 2 + length (lines_of_rounds formals rounds (texts_of lines))) before) GoesOn }
 {}
 
-/// A call of a macro without formals has a shape if no line of the body belongs to unfolding: the line of the call becomes
-/// live, and then the lines of the body.
+/// A call of a macro without formals has a shape if no line of the body has a macro call, a directive for conditions, repeats or macros, or
+/// `.END` as its operator. The line of the call becomes live, and then the lines of the body.
 pub fn calls_have_a_shape()
     ensures { (known : KnownSymbols) (level : Level) (before : Situation) (line : SourceLine) (body : List Bytes) (at : ℕ)
         → operation_at level before line ≡ Calls (record { formals = []; body = body }) at
@@ -63,8 +63,9 @@ pub fn calls_have_a_shape()
         (counting (length body + 1) before) GoesOn }
 {}
 
-/// A condition that is at most the 32nd open one has a shape if no line inside belongs to unfolding. If it is true, the `.IF`, the lines
-/// inside and the `.ENDC` become live, otherwise only the `.IF` and the `.ENDC`.
+/// A condition that is at most the 32nd open one has a shape if no line inside has a macro call, a directive for conditions, repeats or
+/// macros, or `.END` as its operator. If the condition is true, the `.IF`, the lines inside and the `.ENDC` become live, otherwise only the
+/// `.IF` and the `.ENDC`.
 pub fn conditions_have_a_shape()
     ensures holds { (known : KnownSymbols) (level : Level) (before : Situation) (first close : SourceLine) (lines : List SourceLine)
         (at end : ℕ)

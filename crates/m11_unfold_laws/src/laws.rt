@@ -16,8 +16,8 @@ ghost use Rattle.m11_unfold_laws.specs.Limits.{IsCutShort};
 ghost use Rattle.m11_unfold_laws.specs.Levels.{Level, Situation, beginning, mark_at, source_level, stage_of, within_expansion};
 ghost use Rattle.m11_unfold_laws.specs.Shapes.{Ending, GoesOn, Ends, Returns, Shape};
 
-/// Lines with a shape yield its live lines, one after another, and lead to the situation after it, unless a limit is exceeded on
-/// the way. The lines of an expansion lead to what follows it, whether all of them were read or `.MEXIT` ended it early. After
+/// Lines with a shape yield the live lines of the shape, one after another, and lead to the situation after the shape, unless a limit is
+/// exceeded on the way. The lines of an expansion lead to what follows it, whether all of them were read or `.MEXIT` ended it early. After
 /// `.END` nothing is read.
 pub fn lines_give_the_live_lines_of_their_shape()
     ensures onwards { (level : Level) (before after : Situation) (lines : List SourceLine) (gives : List UnfoldedLine) (left : List RemainingItem)
@@ -37,8 +37,9 @@ pub fn lines_give_the_live_lines_of_their_shape()
         → IsEndedAfter (before_lines level before lines left) gives ⊎ IsCutShort (before_lines level before lines left) gives }
 {}
 
-/// A source with a shape has all the live lines of that shape and no others, unless a limit is exceeded on the way. With names known by the
-/// same rule, the live lines of any unfolding of the source are the first live lines of the shape, and all of them if nothing is left.
+/// A source with a shape has all the live lines of that shape and no others, unless a limit is exceeded on the way. If the symbols known at
+/// each line follow the same rule in the shape and in an unfolding of the source, the live lines of that unfolding are the first live lines
+/// of the shape, and all of them if nothing is left.
 pub fn a_source_has_just_the_live_lines_of_its_shape()
     ensures all { (source : List SourceLine) (gives : List UnfoldedLine) (after : Situation) (ending : Ending)
         → Shape source_level beginning source gives after ending → HasLiveLines source gives ⊎ IsCutShort (start source) gives }

@@ -1,4 +1,4 @@
--- The actuals from a column on, by the one that stands first.
+-- The actuals at or after a column, by the first of them.
 use Rattle.std.proofs.Common.{◌≡◌, ℕ, suc, true, List, Option, Some, None, sym, ap, ◌∙◌}
 use Rattle.m11_scan_statements.specs.Actuals.{next_actual, separator_at}
 use Rattle.m11_scan_statements.specs.declared.actuals.Actual.{Actual}

@@ -25,7 +25,7 @@ use Rattle.m11_unfold_rules.proofs.Following.{follows}
 use Rattle.m11_unfold_rules.proofs.Operators.{foreign_alike}
 use Rattle.m11_unfold_rules.proofs.OtherLines.{ForeignHere, looked_up, stage_at}
 
--- the lines of an expansion of a body without formals
+-- the expansion of a body without formals is the lines of the body, and then the end of the expansion
 one_expansion : (body : List Bytes) (mark : Mark) (left : List RemainingItem)
     → expanded [] ([] ∷ []) body mark left ≡ map line_left (map line_of body) ++ End mark ∷ left
 one_expansion body mark left = as_lines [] ([] ∷ []) body mark left

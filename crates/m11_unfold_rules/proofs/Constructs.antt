@@ -1,4 +1,4 @@
--- Lines of unfolding's own, each as one run of steps.
+-- Lines that belong to unfolding, each as one run of steps.
 use Rattle.std.proofs.Common.{◌≡◌, ◌∙◌, ℕ, suc, ◌+◌, ◌≤◌, true, false, List, [], ◌∷◌, ◌++◌, map, None, refl, ap, subst, arith}
 use Rattle.std.specs.Prelude.{if◌then◌else◌}
 use Rattle.m11_base.specs.Rad50.{Name}
@@ -29,7 +29,7 @@ acted_given known left line acted = record {
   arguments = argument_count left;
 }
 
--- a line becomes live, and its operator is done
+-- a line becomes live, and its operator is executed
 pub one_line : (known : KnownSymbols) (conditions : OpenConditions) (macros : List (Name × Macro)) (bytes created taken : ℕ)
     (line : SourceLine) (left : List RemainingItem) (acted : Acted) → is_skipping conditions ≡ false → taken + 1 ≤ most_lines
     → act known (stage_at conditions macros bytes created (taken + 1) left) line.text ≡ acted

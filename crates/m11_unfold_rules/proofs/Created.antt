@@ -1,4 +1,4 @@
--- The local symbols that calls create are those of numbers one after the other.
+-- The local symbols that calls create have consecutive numbers.
 use Rattle.std.proofs.Common.{◌≡◌, ◌≢◌, ℕ, zero, suc, ◌+◌, ◌-◌, ◌*◌, ◌/◌, ◌%◌, ◌<◌, ◌≤◌, Bool, true, false, if◌then◌else◌, List, [], ◌∷◌, ◌++◌, length, get_or, drop, map, All, AllPairs, refl, sym, ap, ◌∙◌, subst, arith, inl, inr}
 use Rattle.std.proofs.lemmas.Bool.{cases_lt, le-ltb, lt-ltb, ne_eqb}
 use Rattle.std.proofs.lemmas.List.Elements.{All-cons, All-map, All-nil, All-weaker}
@@ -10,7 +10,7 @@ use Rattle.m11_unfold_rules.specs.declared.macros.MacroFormal.{MacroFormal}
 
 -- ---- from number to number
 
--- symbols are created from a number on, up to the one that comes next
+-- created symbols with consecutive numbers: the number of the first symbol, the symbols, and the number of the symbol after them
 data AreCreated : ℕ → List (List ℕ) → ℕ → Type 0 where
   NoSymbol : (number : ℕ) → AreCreated number [] number
   OneMore : (number next : ℕ) (texts : List (List ℕ)) → AreCreated (created_after number) texts next
@@ -78,7 +78,7 @@ read_last : (so_far : ℕ) (bytes : List ℕ) (byte : ℕ) → read_on so_far (b
 read_last so_far [] byte = refl
 read_last so_far (first ∷ bytes) byte = read_last (so_far * 10 + (first - 48)) bytes byte
 
--- ten times as many for each digit more
+-- ten to the power of the number of digits
 abbrev limit : ℕ → ℕ
 limit zero = 1
 limit (suc bound) = 10 * limit bound

@@ -1,4 +1,4 @@
--- After a live `.END` nothing is taken any more.
+-- After a live `.END` nothing more is read.
 use Rattle.std.proofs.Common.{◌≡◌, ℕ, true, List, [], refl, ap, subst, sym, ◌∙◌}
 use Rattle.std.specs.Prelude.{Bool, if◌then◌else◌}
 use Rattle.m11_scan.specs.Line.{SourceLine}
@@ -12,11 +12,11 @@ use Rattle.m11_unfold_rules.specs.Unfolding.{UnfoldedLine, Leads}
 use Rattle.m11_unfold_rules.specs.Unfolding as steps
 use Rattle.m11_unfold_rules.proofs.Cases.{move_from}
 
--- where `.END` came, nothing is taken
+-- after a live `.END` no move is left
 pub rests_after : (stage : Stage) → stage.has_ended ≡ true → move stage ≡ NothingLeft
 rests_after stage ended = ap (λ (b : Bool). if b then NothingLeft else move_from stage.left stage) ended
 
--- and so no stage but the same one is led to
+-- so an unfolding from a stage after a live `.END` has no lines, and stays at this stage
 pub stays_after : (before after : Stage) (done : List UnfoldedLine) → before.has_ended ≡ true → Leads before done after
     → (done ≡ []) × (after ≡ before)
 stays_after before _ _ ended steps.Leads.Stays = (refl, refl)

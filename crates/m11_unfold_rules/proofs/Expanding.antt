@@ -35,7 +35,7 @@ none_put : (pieces : List Piece) → list_any (is_replaced [] []) pieces ≡ fal
 none_put [] = refl
 none_put (piece ∷ pieces) = ap (λ (b : Bool). b || list_any (is_replaced [] []) pieces) (put_nowhere piece) ∙ none_put pieces
 
--- a text in which nothing is put is its line
+-- a text of a body without formals becomes the line of this text
 plain : (text : Bytes) → line_with [] [] text ≡ line_of text
 plain text = ap line_of (unchanged [] [] text (none_put (pieces_of text)))
 

@@ -1,4 +1,4 @@
--- The texts of some formals, by the text of the first one.
+-- The texts that replace formals, by the text of the first formal.
 use Rattle.std.proofs.Common.{◌≡◌, ◌<◌, ℕ, suc, List, [], ◌∷◌, drop, get_or, length, sym, ap, ◌∙◌}
 use Rattle.std.proofs.Math.Seq.{drop-cons}
 use Rattle.m11_unfold_rules.specs.Filling.{FormalTexts, fill, filled, text_before}

@@ -1,4 +1,4 @@
--- A list of formals, by what stands in it first.
+-- A list of formals, by its first item.
 use Rattle.std.proofs.Common.{◌≡◌, ℕ, suc, List, ◌∷◌, sym, ap, ◌∙◌}
 use Rattle.std.specs.Int.RustNames.{bit_or}
 use Rattle.m11_scan_statements.specs.Actuals.{separator_at}

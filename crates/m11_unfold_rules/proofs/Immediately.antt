@@ -1,4 +1,4 @@
--- A condition and the comma after it are noted one after the other.
+-- The remarks of a condition and those of the comma after it are added one after the other.
 use Rattle.std.proofs.Common.{◌≡◌, ℕ, List, ◌++◌, Option, ap, ◌∙◌}
 use Rattle.std.specs.Int.RustNames.{bit_or}
 use Rattle.m11_unfold_rules.specs.Conditions.{ConditionResult, verdict_of, remarks_in}

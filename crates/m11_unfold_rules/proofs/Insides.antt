@@ -1,4 +1,4 @@
--- What stands in a line is no longer than the line.
+-- A part of a line is no longer than the line.
 use Rattle.std.proofs.Common.{◌≡◌, ◌≤◌, ℕ, Bool, true, false, ◌-◌, if◌then◌else◌, List, [], length, drop, take, arith}
 use Rattle.std.proofs.lemmas.List.{length-drop, length-take, take_all}
 use Rattle.m11_scan.specs.Cutting.{text_between}

@@ -34,7 +34,7 @@ no_marks : (more : List SourceLine) → marks (map line_left more) ≡ []
 no_marks [] = refl
 no_marks (line ∷ more) = no_marks more
 
--- a move that takes something
+-- a move that reads something
 abbrev IsMove : Move → Type 0
 IsMove NothingLeft = ⊥
 IsMove (Passes stage) = Unit {0}
@@ -47,7 +47,7 @@ module _ (more : List SourceLine) where
   abbrev on : Stage → Stage
   on stage = with_more more stage
 
-  -- expansions that are open
+  -- further lines of the source don't change which expansions are open
   pub same_open : (left : List RemainingItem) → marks (left ++ lines) ≡ marks left
   same_open [] = no_marks more
   same_open (Line line ∷ left) = same_open left

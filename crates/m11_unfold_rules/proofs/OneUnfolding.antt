@@ -1,4 +1,4 @@
--- A source has one unfolding under what its lines say.
+-- A source has one unfolding, if one rule says what is known at each line.
 use Rattle.std.proofs.Common.{◌≡◌, ◌∙◌, List, [], ◌∷◌, ◌++◌, append_assoc, append-nil, None, inl, inr, refl, sym, ap, subst}
 use Rattle.std.specs.Prelude.{◌⊎◌}
 use Rattle.m11_scan_expressions.specs.Expressions.{KnownSymbols}
@@ -13,14 +13,14 @@ use Rattle.m11_unfold_rules.specs.Acting.{act_fault}
 
 -- ---- the first step
 
--- how an unfolding begins: not at all, with a move that gives no line, or with a live line
+-- how an unfolding begins: it has no step, or its first move gives no line, or its first move gives a live line
 data Begins (before : Stage) (done : List UnfoldedLine) (after : Stage) : Type 0 where
   Still : done ≡ [] → after ≡ before → Begins before done after
   Moved : (next : Stage) → move before ≡ Passes next → Leads next done after → Begins before done after
   Gave : (next : Stage) (live : Live) (known : KnownSymbols) (more : List UnfoldedLine) → move before ≡ Gives live next
       → done ≡ given known live next ∷ more → Leads (act known next live.line.text).after more after → Begins before done after
 
--- one move more that gives no line
+-- with one more move at its end, which gives no line, an unfolding still begins in one of these ways
 moves_on : (before stage after : Stage) (done : List UnfoldedLine) → next_fault stage ≡ None → move stage ≡ Passes after
     → Begins before done stage → Begins before done after
 moves_on before stage after done fault moves (Still none same) =
@@ -32,7 +32,7 @@ moves_on before stage after done fault moves (Moved next first leads) =
 moves_on before stage after done fault moves (Gave next live known more first whole leads) =
     Gave next live known more first whole (steps.Leads.Passing more stage after leads fault moves)
 
--- one live line more
+-- with one more live line at its end, an unfolding still begins in one of these ways
 gives_on : (before stage after : Stage) (done : List UnfoldedLine) (live : Live) (known : KnownSymbols) → next_fault stage ≡ None
     → move stage ≡ Gives live after → act_fault after live.line.text ≡ None → Begins before done stage
     → Begins before (done ++ given known live after ∷ []) (act known after live.line.text).after
@@ -55,7 +55,7 @@ first_step before _ _ (steps.Leads.Giving done stage after live known leads faul
 
 -- ---- two unfoldings
 
--- where the first goes one move further, the second did the same, or is no further
+-- if the first unfolding makes one more move, the second one made the same move, or has come no further
 passes_too : (stage after other : Stage) (done later more : List UnfoldedLine) → next_fault stage ≡ None → move stage ≡ Passes after
     → later ≡ done ++ more → Begins stage more other → GoesOn done after later other ⊎ GoesOn later other done after
 passes_too stage after other done later more fault moves whole (Still none same) =
@@ -72,7 +72,7 @@ passes_too stage after other done later more fault moves whole (Gave next live k
     let both : Passes after ≡ Gives live next = sym moves ∙ moves' in
     absurd (cc both)
 
--- where the first gives one line further, the second gave the same, or is no further
+-- if the first unfolding has one more live line, the second one has the same line, or has come no further
 gives_too : (tells : List UnfoldedLine → Live → KnownSymbols) (stage after other : Stage) (done later more : List UnfoldedLine) (live : Live) (known : KnownSymbols)
     → next_fault stage ≡ None → move stage ≡ Gives live after → act_fault after live.line.text ≡ None
     → IsKnownBy tells (done ++ given known live after ∷ []) → IsKnownBy tells later → later ≡ done ++ more → Begins stage more other
@@ -106,7 +106,7 @@ gives_too tells stage after other done later more live known fault moves acts to
       leads = all.1;
     })
 
--- what a front of the lines was told
+-- a rule that says what is known at each of these lines says so at each of the first ones
 pub front_told : (tells : List UnfoldedLine → Live → KnownSymbols) (done more : List UnfoldedLine) → IsKnownBy tells (done ++ more) → IsKnownBy tells done
 front_told tells done more told earlier later one is =
     told earlier (later ++ more) one (ap (λ (d : List UnfoldedLine). d ++ more) is ∙ append_assoc earlier (one ∷ later) more)
@@ -143,7 +143,7 @@ compared tells before _ second _ later told told' (steps.Leads.Giving done stage
 
 -- ---- unfoldings that are at their end
 
--- where nothing is taken any more, an unfolding stays
+-- if no move is left at a stage, an unfolding from it has no lines and stays there
 stays_there : (stage after : Stage) (more : List UnfoldedLine) → move stage ≡ NothingLeft → Begins stage more after
     → (more ≡ []) × (after ≡ stage)
 stays_there stage after more rests (Still none same) = (none, same)

@@ -1,4 +1,4 @@
--- Where no line is skipped, an operator is looked up alike, whatever conditions are open.
+-- While no lines are skipped, an operator is looked up in the same way, whatever conditions are open.
 use Rattle.std.proofs.Common.{◌≡◌, ◌∙◌, ℕ, Bool, true, List, [], ◌∷◌, Option, Some, None, refl, sym, ap}
 use Rattle.std.specs.Prelude.{if◌then◌else◌}
 use Rattle.m11_base.specs.Devices.{Bytes}
@@ -39,7 +39,7 @@ module _ (macros : List (Name × Macro)) where
   foreign_alike one other (line ∷ lines) same foreign =
       (sym (alike one other line.text same) ∙ foreign.0, foreign_alike one other lines same foreign.1)
 
-  -- ---- what a word alone is
+  -- ---- the directive of a word
 
   word_of_called : (macro : Option Macro) (word : Option Directive) (end column : ℕ) (directive : Directive)
       → called macro word end ≡ OwnDirective directive column → (word ≡ Some directive) × (directed word end ≡ OwnDirective directive column)
@@ -61,7 +61,7 @@ module _ (macros : List (Name × Macro)) where
       let word : Bytes = six_of (text_between text name.start name.end) in
       (word_of_called (macro_of conditions macros (name_of word)) (directive_named word) name.end column directive is).0
 
-  -- a line with a directive has its word
+  -- if the operation of a line is a directive, the word of its operator names this directive
   pub has_word : (conditions : OpenConditions) (text : Bytes) (column : ℕ) (word : Directive)
       → operation conditions macros text ≡ OwnDirective word column → directive text ≡ Some word
   has_word conditions text column word is = word_in conditions text (operator text) column word is
@@ -73,7 +73,7 @@ module _ (macros : List (Name × Macro)) where
       let word : Bytes = six_of (text_between text name.start name.end) in
       no_word_of_called (macro_of conditions macros (name_of word)) (directive_named word) name.end is
 
-  -- a line without a macro or a directive has none
+  -- if the operation of a line is foreign, the word of its operator names no directive
   pub has_no_word : (conditions : OpenConditions) (text : Bytes) → operation conditions macros text ≡ Foreign → directive text ≡ None
   has_no_word conditions text is = no_word_in conditions text (operator text) is
 
@@ -90,7 +90,7 @@ module _ (macros : List (Name × Macro)) where
       let directs = word_of_called (macro_of one macros (name_of word)) (directive_named word) name.end column directive is in
       ap (λ (m : Option Macro). called m (directive_named word) name.end) (no_macro other (name_of word) skips) ∙ directs.1
 
-  -- a directive is one in skipped lines too
+  -- if the operation of a line is a directive, it is the same directive while lines are skipped
   pub directive_skipping : (one other : OpenConditions) (text : Bytes) (column : ℕ) (word : Directive)
       → is_skipping other ≡ true → operation one macros text ≡ OwnDirective word column → operation other macros text ≡ OwnDirective word column
   directive_skipping one other text column word skips is = skipping_in one other text (operator text) column word skips is

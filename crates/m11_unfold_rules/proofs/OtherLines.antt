@@ -1,4 +1,4 @@
--- Lines that are none of unfolding's own become live one after the other.
+-- Lines that don't belong to unfolding become live one after the other.
 use Rattle.std.proofs.Common.{◌≡◌, ◌∙◌, ℕ, suc, ◌+◌, ◌≤◌, false, List, [], ◌∷◌, ◌++◌, length, map, append_assoc, append-nil, None, refl, sym, ap, subst, arith}
 use Rattle.std.specs.Prelude.{nat_le, ⊤}
 use Rattle.std.proofs.lemmas.Bool.Decides.{nat_tests}
@@ -22,7 +22,7 @@ pub same_marks : (lines : List SourceLine) (left : List RemainingItem) → marks
 same_marks [] left = refl
 same_marks (line ∷ lines) left = same_marks lines left
 
--- nothing is skipped, and no body is open
+-- a stage at which no body is open, and no `.END` has become live
 abbrev pub stage_at : OpenConditions → List (Name × Macro) → ℕ → ℕ → ℕ → List RemainingItem → Stage
 stage_at conditions macros bytes created taken left = record {
   left = left;
@@ -35,7 +35,7 @@ stage_at conditions macros bytes created taken left = record {
   has_ended = false;
 }
 
--- the same of lines, by what their operators are looked up in
+-- these lines are foreign as in `AreForeign`, but by the conditions and the macros in place of a whole stage
 abbrev pub ForeignHere : OpenConditions → List (Name × Macro) → List SourceLine → Type 0
 ForeignHere conditions macros [] = ⊤
 ForeignHere conditions macros (line ∷ lines) =
@@ -76,7 +76,7 @@ given_alike known left lines line here stands acts =
     } in
     ap told acts ∙ ap (λ (l : List RemainingItem). marked (marks l)) stands ∙ ap marked (same_marks lines left)
 
--- the lines after others, one by one
+-- after an unfolding, these lines become live one by one
 pub onwards : (before : Stage) (known : KnownSymbols) (conditions : OpenConditions) (macros : List (Name × Macro)) (bytes created : ℕ)
     (left : List RemainingItem) → is_skipping conditions ≡ false → (lines : List SourceLine) (taken : ℕ) (done : List UnfoldedLine)
     → ForeignHere conditions macros lines → taken + length lines ≤ most_lines

@@ -1,4 +1,4 @@
--- A repeat's body is taken, and its rounds are put in place of it.
+-- The body of a repeat is read, and its rounds take its place.
 use Rattle.std.proofs.Common.{◌≡◌, ◌∙◌, ℕ, suc, ◌+◌, ◌<◌, ◌≤◌, Bool, true, false, List, [], ◌∷◌, ◌++◌, length, map, append_assoc, append-nil, Option, Some, None, sym, ap, subst, arith}
 use Rattle.std.specs.Prelude.{if◌then◌else◌, nat_le, nat_lt, replicate}
 use Rattle.std.proofs.lemmas.Bool.Decides.{nat_tests}
@@ -34,7 +34,7 @@ use Rattle.m11_unfold_rules.proofs.Operators.{foreign_alike}
 use Rattle.m11_unfold_rules.proofs.OtherLines.{ForeignHere, has_lines_left, looked_up, same_marks, stage_at}
 
 module _ (conditions : OpenConditions) (macros : List (Name × Macro)) (bytes created : ℕ) (purpose : Purpose) where
-  -- some lines of a body are taken
+  -- a stage at which a body is open, and these lines of it have been read
   abbrev pub body_stage : ℕ → List Bytes → List RemainingItem → Stage
   body_stage taken body left = record {
     left = left;
@@ -47,7 +47,7 @@ module _ (conditions : OpenConditions) (macros : List (Name × Macro)) (bytes cr
     has_ended = false;
   }
 
-  -- one line more
+  -- one more line is added to the body, within the limits
   line_room : (taken more : ℕ) (body : List Bytes) (line : SourceLine) (left : List RemainingItem) → nesting line.text ≡ Neither
       → taken + suc more ≤ most_lines → bytes + bytes_held left + (size_of body + (length line.text + 1)) ≤ most_bytes
       → next_fault (body_stage taken body (Line line ∷ left)) ≡ None
@@ -65,7 +65,7 @@ module _ (conditions : OpenConditions) (macros : List (Name × Macro)) (bytes cr
       let here : Stage = body_stage taken body (Line line ∷ left) in
       ap (λ (n : Nesting). Passes (into_body purpose (record { body = body; depth = 0 }) line.text (depth_after n 0) (one_taken left here))) neither
 
-  -- all of them, one by one
+  -- all lines of the body are added to it, one by one
   pub body_taken : (before : Stage) (done : List UnfoldedLine) (left : List RemainingItem) (lines : List SourceLine) (taken more : ℕ) (body : List Bytes)
       → IsPlainBody (texts_of lines) → taken + (length lines + more) ≤ most_lines
       → bytes + bytes_held left + (size_of body + size_of (texts_of lines)) ≤ most_bytes
@@ -102,7 +102,7 @@ module _ (conditions : OpenConditions) (macros : List (Name × Macro)) (bytes cr
   abbrev repeat_mark : List Bytes → Mark
   repeat_mark body = record { arguments = None; bytes = size_of body; conditions = conditions }
 
-  -- a repeat's body is put in place of it
+  -- the line that closes a repeat's body is followed by the lines of its rounds, and then by the end of the expansion
   closes : (taken more : ℕ) (body : List Bytes) (close : SourceLine) (left : List RemainingItem) → nesting close.text ≡ Closes
       → taken + suc more ≤ most_lines → depth left < most_expansions
       → Leads (body_stage conditions macros bytes created (Repeats formals rounds) taken body (Line close ∷ left)) []
@@ -215,7 +215,7 @@ module _ (known : KnownSymbols) (stage : Stage) (block : Block) (column : ℕ) (
   abbrev here : Stage
   here = first_taken known stage block (rounds.formal ∷ []) (map (λ text. text ∷ []) rounds.texts)
 
-  -- `.IRP` or `.IRPC`, by what its arguments are
+  -- an `.IRP` or `.IRPC` with these arguments yields its own line and then the lines of its rounds
   pub indefinitely : (arguments : Repeated) → arguments.rounds ≡ Some rounds → IsLive stage
       → IsPlainBody (texts_of block.lines) → nesting block.close.text ≡ Closes
       → AreForeign stage (repeated_lines rounds (texts_of block.lines))

@@ -1,4 +1,4 @@
--- What is noted of a formal and its list, one thing after the other.
+-- The remarks of a formal and of its list, added one after the other.
 use Rattle.std.proofs.Common.{◌≡◌, ℕ, List, [], Option, Some, None, ap, ◌∙◌}
 use Rattle.m11_scan.specs.Line.{line_limit}
 use Rattle.m11_scan_statements.specs.declared.actuals.Actual.{Actual}
@@ -34,7 +34,7 @@ module _ (line : List ℕ) (column : ℕ) (texts : Actual → ActualTexts) (begi
       ∙ ap (λ (l : ℕ). joined begin (joined (joined (remarks_of (flags_before line column) []) given) (remarks_of l []))) rest
       ∙ ap (λ (b : Option RepeatHeader). joined begin (repeated line column texts b).remarks) some
 
--- what is noted of brackets, and then of the list in them
+-- the flag of the brackets, and then the remarks of the list inside them, are together the remarks of the bracketed list
 pub inner_noted : (known : KnownSymbols) (line : List ℕ) (list : Actual) (begin middle : Remarks) (flags : ℕ) (text : List ℕ)
     → middle ≡ with_flags begin flags → flags ≡ actual_flags list → text ≡ text_of line list
     → joined middle (actuals_from known text line_limit 0).remarks ≡ joined begin (listed_in known line list).remarks

@@ -1,4 +1,4 @@
--- A search of the rows whose names have a name's second character is one of all rows.
+-- A search for a name among the rows with the same second character finds what a search among all rows finds.
 use Rattle.std.proofs.Common.{◌≡◌, ℕ, Bool, true, false, cond, List, [], ◌∷◌, Option, Some, find, refl, ap, ◌∙◌, arith}
 use Rattle.std.proofs.lemmas.Bool.{eq-eqb}
 use Rattle.std.proofs.lemmas.Slice.Eq.{bytes_eq-Decides}

@@ -1,4 +1,4 @@
--- Names joined by `&` and `!`, one after the other.
+-- Names joined by `&` and `!`, tested one after the other.
 use Rattle.std.proofs.Common.{◌≡◌, ℕ, Bool, List, [], ◌∷◌, drop, option_to_list, Option, Some, None, refl, sym, ap, ◌∙◌, subst}
 use Rattle.std.proofs.lemmas.List.{append_assoc}
 use Rattle.m11_scan.specs.Cutting.{Lexeme}
@@ -57,13 +57,13 @@ module _ (test : Symbol → Bool) (size : ℕ) (before : Option SoFar) (name : L
         after_joint (joined_to before (test symbol)) name.end (joining mark.sort) (λ next. names_in test size next tokens))) is
         ∙ ap (λ (t : Tested). symbol_first symbol t) (further mark.end tokens (joining mark.sort) next some)
 
--- what is left of a list of names leads to what the whole list says
+-- the names that are left have the result of the whole list, and their symbols, added to the remarks, are all of its symbols
 pub record Leads (remarks begin : Remarks) (left all : Tested) : Type 0 where
   pub verdict : left.verdict ≡ all.verdict
   pub end : left.end ≡ all.end
   pub symbols : with_symbols remarks left.symbols ≡ with_symbols begin all.symbols
 
--- what the list says where it ends
+-- this result, this column and these remarks are those of the whole list
 pub record AreAsked (remarks begin : Remarks) (found : Option Bool) (column : ℕ) (all : Tested) : Type 0 where
   pub verdict : found ≡ all.verdict
   pub end : column ≡ all.end
@@ -102,7 +102,7 @@ abbrev verdict_or : Bool → Option Bool → Bool
 verdict_or other None = other
 verdict_or other (Some verdict) = verdict
 
--- a step from one name to what stands after it
+-- a step from one name to the tokens after it
 module _ (known : KnownSymbols) (wants : Bool) (size : ℕ) (before : Option SoFar) (name : Lexeme) (here tokens : List Lexeme)
     (remarks after begin : Remarks) (all : Tested) (begins : here ≡ name ∷ tokens)
     (leads : Leads remarks begin (names_in (tested known wants) size before here) all) where

@@ -1,4 +1,4 @@
--- Texts that the code holds, with one more after them.
+-- Texts that the code stores, with one more after them.
 use Rattle.std.proofs.Common.{◌≡◌, ℕ, List, [], ◌∷◌, ◌++◌, ap, ◌∙◌, Vec}
 use Rattle.std.specs.declared.alloc.Global.{Global}
 use Rattle.std.proofs.lemmas.List.{append_assoc, map-append}

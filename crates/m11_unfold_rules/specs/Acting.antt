@@ -54,8 +54,8 @@ pub data Operation : Type 0 where
   -- anything else
   Foreign : Operation
 
--- the macro that an operator names, if it names one; none while lines are skipped, since the line that ends a skipped part acts
--- by its directive
+-- the macro that an operator names, if it names one; none while lines are skipped: a line that becomes live then is executed as a
+-- directive, even if a macro has the directive's name
 abbrev pub macro_of : OpenConditions → List (Name × Macro) → Option Name → Option Macro
 macro_of conditions macros None = None
 macro_of conditions macros (Some name) = if is_skipping conditions then None else macro_named macros name
@@ -83,7 +83,7 @@ own remarks stage = record { is_own = true; remarks = remarks; after = stage }
 abbrev pub foreign : Stage → Acted
 foreign stage = record { is_own = false; remarks = no_remarks; after = stage }
 
--- remarks with these flags, and with Q and I for a left-over token and a skipped character from a column on
+-- remarks with these flags, with Q for a left-over token and I for a skipped character at or after a column, and without symbols
 abbrev pub flagged : ℕ → Bytes → ℕ → Remarks
 flagged flags text column = remarks_of (bit_or flags (left_over text column)) []
 
@@ -109,8 +109,8 @@ acted_immediate known text column stage =
       | None ↦ stage
     ]) else stage)
 
--- `.IFF`, `.IFT`, `.IFTF` and `.ENDC`: change the open conditions of the innermost expansion; if none is open in it, the line is flagged O
--- instead
+-- `.IFF`, `.IFT`, `.IFTF` and `.ENDC`: change the open conditions of the innermost expansion, or of the source if no expansion is open; if
+-- there is none, not even one beyond the limit, the line is flagged O instead
 abbrev pub acted_within : (OpenConditions → OpenConditions) → Bytes → ℕ → Stage → Acted
 acted_within change text column stage =
     if has_none stage.conditions then own (flagged flag_O text column) stage

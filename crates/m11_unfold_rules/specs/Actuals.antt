@@ -37,13 +37,13 @@ numeral known line column = record {
 abbrev pub characters : Bytes → Actual → ActualTexts
 characters line actual = record { texts = text_of line actual ∷ []; remarks = remarks_of (actual_flags actual) [] }
 
--- the text of an actual (its characters, or for `\` the digits of its number), with its flags and symbols
+-- the text of an actual (its characters, or after `\` the digits of the expression's number), with its flags and symbols
 abbrev pub given_by : KnownSymbols → Bytes → Actual → ActualTexts
 given_by known line actual =
     elim actual.kind [ Digits ↦ numeral known line actual.inside.start | _ ↦ characters line actual ]
 
--- the actuals from a column of a line on, at most this many, with their flags and symbols; a further one is ignored, with the rest
--- of the line, and flagged Q
+-- the actuals at or after a column of a line, at most `wanted` of them, with their flags and symbols; a further one is ignored, with
+-- the rest of the line, and flagged Q
 abbrev pub actuals_from : KnownSymbols → Bytes → ℕ → ℕ → ActualTexts
 actuals_from known line zero column =
     record { texts = []; remarks = remarks_of (flag_if (is_some (next_actual line column true)) flag_Q) [] }

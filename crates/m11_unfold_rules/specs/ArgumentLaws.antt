@@ -16,14 +16,14 @@ created_among (formal ∷ formals) actuals texts =
     (if creates formal (get_or actuals 0 []) then get_or texts 0 [] ∷ [] else [])
     ++ created_among formals (drop 1 actuals) (drop 1 texts)
 
--- the symbols created in successive calls, the first of them with this number
+-- the symbols created in successive calls; the first symbol has this number
 abbrev pub created_in : List Call → ℕ → List Bytes
 created_in [] number = []
 created_in (call ∷ calls) number =
     created_among call.formals call.actuals (filled call.formals call.actuals number).texts
     ++ created_in calls (filled call.formals call.actuals number).created
 
--- this many consecutive numbers of created symbols from this one on; 30000 follows 65535
+-- this many consecutive numbers of created symbols, beginning with this one; 30000 follows 65535
 abbrev pub numbers_from : ℕ → ℕ → List ℕ
 numbers_from number zero = []
 numbers_from number (suc count) = number ∷ numbers_from (created_after number) count

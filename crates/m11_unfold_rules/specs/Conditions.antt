@@ -45,11 +45,11 @@ verdict_of asked = record { holds = asked.holds; end = asked.end }
 abbrev pub remarks_in : ConditionResult → Remarks
 remarks_in asked = remarks_of asked.flags asked.symbols
 
--- a condition that is false, and flagged A, because it is unknown or an argument is bad or missing
+-- a condition that is false, and flagged A, because its name is missing or unknown, or an argument is missing
 abbrev pub refused : ℕ → ConditionResult
 refused end = record { holds = false; end = end; flags = flag_A; symbols = [] }
 
--- whether a word is negative as a signed number: from octal 100000 on
+-- whether a word is negative as a signed number: it is octal 100000 or more
 abbrev pub is_negative : ℕ → Bool
 is_negative number = nat_le 0o100000 number
 
@@ -72,7 +72,7 @@ numeric known line column condition =
       symbols = symbols_at line column;
     } else refused column
 
--- DF NDF: the result of the names at a column, with I for a skipped character; if a name is bad or missing, it is false, and
+-- DF NDF: the result of the names at a column, with I for a skipped character; if a name is bad or missing, the result is false, and
 -- flagged A
 abbrev pub defined : KnownSymbols → Bytes → ℕ → Bool → ConditionResult
 defined known line column wants_defined =
@@ -87,11 +87,11 @@ defined known line column wants_defined =
 abbrev pub text_of : Bytes → Actual → Bytes
 text_of line actual = text_between line actual.inside.start actual.inside.end
 
--- A for an argument without its `>`
+-- A if an argument lacks its `>`, otherwise no flags
 abbrev pub actual_flags : Actual → ℕ
 actual_flags actual = flag_if (not actual.is_closed) flag_A
 
--- B NB: whether an argument has only blanks and tabs, or for NB, whether it has any other character; a missing one is empty
+-- B NB: whether an argument has only blanks and tabs, or for NB, whether it has any other character; a missing one counts as empty
 abbrev pub blank : Bytes → ℕ → Bool → ConditionResult
 blank line column wants_blank = elim (next_actual line column false) [
   | None ↦ record { holds = wants_blank; end = column; flags = 0; symbols = [] }
@@ -108,8 +108,8 @@ abbrev pub matched : Bool → Bytes → Bytes → ℕ → ℕ → ConditionResul
 matched wants_same first second end flags =
     record { holds = is_as wants_same (bytes_eq first second); end = end; flags = flags; symbols = [] }
 
--- IDN DIF: compares the first argument with the second, which may be empty after a comma; if there is neither a second one nor a comma, the
--- result is false, and flagged A
+-- IDN DIF: compares the first argument with the second; a second one that is missing after a comma counts as empty; if the comma is
+-- missing too, the result is false, and flagged A
 abbrev pub second_at : Bytes → Bool → Actual → Separator → ConditionResult
 second_at line wants_same first separator = elim (next_actual line separator.end false) [
   | Some second ↦ matched wants_same (text_of line first) (text_of line second) second.end
@@ -124,7 +124,7 @@ same line column wants_same = elim (next_actual line column false) [
   | Some first ↦ second_at line wants_same first (separator_at line first.end)
 ]
 
--- a condition evaluated on its arguments, which are read from a column on
+-- the result of a condition for its arguments, which begin at or after a column
 abbrev pub asked : KnownSymbols → Bytes → ℕ → Condition → ConditionResult
 asked known line column Defined = defined known line column true
 asked known line column NotDefined = defined known line column false

@@ -40,7 +40,7 @@ after_block stage block further =
 
 -- ---- repeats
 
--- no line of these opens or closes a body
+-- none of these lines opens or closes a body
 abbrev pub IsPlainBody : List Bytes → Type 0
 IsPlainBody [] = ⊤
 IsPlainBody (text ∷ texts) = (nesting text ≡ Neither) × IsPlainBody texts

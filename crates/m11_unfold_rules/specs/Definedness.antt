@@ -22,7 +22,7 @@ flag_U = 0o20000
 abbrev pub is_defined : Quantity → Bool
 is_defined meaning = bit_and meaning.flags flag_U == 0
 
--- whether something is as wanted: `found` itself, or its negation if `wanted` is false
+-- whether `found` equals `wanted`: `found` itself, or its negation if `wanted` is false
 abbrev pub is_as : Bool → Bool → Bool
 is_as wanted found = if wanted then found else not found
 
@@ -40,7 +40,7 @@ joined_to None verdict = verdict
 joined_to (Some so_far) verdict =
     elim so_far.joint [ joints.And ↦ so_far.holds && verdict | joints.Or ↦ so_far.holds || verdict ]
 
--- the operator `&` or `!` that a token of this sort is, if it is one
+-- the operator between two names, `&` or `!`, whose token has this sort; none for any other sort
 abbrev pub joining : Sort → Option Joint
 joining sorts.And = Some joints.And
 joining sorts.Or = Some joints.Or
@@ -55,7 +55,8 @@ abbrev pub joint_in : List Lexeme → Option JointAt
 joint_in [] = None
 joint_in (mark ∷ tokens) = joint_at mark.end (joining mark.sort)
 
--- the result of a list of names (none if a name is bad or missing), the column after them, and the symbols that were read
+-- the result of a list of names, the column after them, and the symbols that were read; if a name is bad or missing, there is no result,
+-- and the column is the end of the line
 pub record Tested : Type 0 where
   pub verdict : Option Bool
   pub end : ℕ
@@ -67,8 +68,8 @@ at_bad size = record { verdict = None; end = size; symbols = [] }
 abbrev pub at_last : Bool → ℕ → Tested
 at_last verdict end = record { verdict = Some verdict; end = end; symbols = [] }
 
--- the result of a list of names that begins with this symbol: what `more` gives for the symbol, with the symbol put before those that
--- were read after it; if the first name is bad, there is no symbol (None) and no result, and the column is the end of the line
+-- the result of a list of names that begins with this symbol: what `more` yields for the symbol, with the symbol put before those
+-- that were read after it. If the first name is bad, the symbol is None; there is then no result, and the column is the end of the line
 abbrev pub after_symbol : ℕ → Option Symbol → (Symbol → Tested) → Tested
 after_symbol size None more = at_bad size
 after_symbol size (Some symbol) more = record (more symbol) { symbols = symbol ∷ (more symbol).symbols }

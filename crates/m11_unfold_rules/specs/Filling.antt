@@ -25,7 +25,7 @@ pub record FormalTexts : Type 0 where
 abbrev pub text_before : Bytes → FormalTexts → FormalTexts
 text_before text more = record { texts = text ∷ more.texts; created = more.created }
 
--- a symbol is created if the formal asks for one and its actual is empty
+-- whether a symbol is created for a formal: the formal asks for one, and its actual is empty
 abbrev pub creates : MacroFormal → Bytes → Bool
 creates formal text = formal.is_created && length text == 0
 
@@ -34,8 +34,8 @@ fill formal text created more =
     if creates formal text then text_before (created_text created) (more (created_after created))
     else text_before text (more created)
 
--- the text that replaces each formal, which is empty if there is none for it, and the number of the next created symbol; the first
--- one created here has the number `created`
+-- the text that replaces each formal, and the number of the next created symbol. A formal's text is its actual, which is empty if
+-- `texts` has none for it, or a created symbol; the first symbol created here has the number `created`
 abbrev pub filled : List MacroFormal → List Bytes → ℕ → FormalTexts
 filled [] texts created = record { texts = []; created = created }
 filled (formal ∷ formals) texts created =

@@ -22,12 +22,12 @@ use Rattle.m11_unfold_rules.specs.declared.macros.MacroFormal.{MacroFormal}
 use Rattle.m11_unfold_rules.specs.declared.macros.NameAt.{NameAt}
 use Rattle.m11_scan_expressions.specs.LeftOvers.{bad_flags, flags_before, rest_flags, skip_flags}
 
--- the name in a token, if the source can define it: any name but `.`
+-- the name in a token; none if the token isn't a name other than `.`
 abbrev pub name_in : Sort → Bytes → Option Name
 name_in sorts.Name text = if is_counter text then None else name_of (six_of text)
 name_in sort text = None
 
--- the name in the first of these tokens and the column after it, if the source can define the name
+-- the name in the first of these tokens and the column after it; none if there is no token, or if it isn't a name other than `.`
 abbrev pub name_at : List Lexeme → Option NameAt
 name_at [] = None
 name_at (token ∷ tokens) = option_map (λ name. record { name = name; end = token.end }) (name_in token.sort token.text)
@@ -41,8 +41,8 @@ pub data NextListed : Type 0 where
 abbrev pub formal_start : Formal → ℕ
 formal_start formal = if formal.is_created then formal.name.start - 1 else formal.name.start
 
--- the item at a column: a formal, with I for a skipped character before it; anything else ends the list, with I for a skipped
--- character from there on, and with A unless no token is left
+-- the next item in a list of formals, at or after a column: a formal, with I for a skipped character before it; or the end of the
+-- list, with I for a skipped character in the rest of the line, and with A if a token is left
 abbrev pub listed_at : Bytes → ℕ → NextListed
 listed_at line column = elim (next_formal line column) [
   | Ends ↦ Ending (rest_flags line column)
@@ -64,13 +64,14 @@ formals_by more (Ending flags) = record { list = []; flags = flags }
 formals_by more (Formally formal flags end) =
     record { list = formal ∷ (more end).list; flags = bit_or flags (more end).flags }
 
--- at most `bound` formals from a column on, and the flags of their list; blanks, a comma or both may come before each
+-- the formals at or after a column, at most `bound` of them, and the flags of their list; blanks, a comma or both may come before
+-- each formal
 abbrev pub formals_within : ℕ → Bytes → ℕ → FormalList
 formals_within zero line column = record { list = []; flags = 0 }
 formals_within (suc bound) line column =
     formals_by (λ next. formals_within bound line next) (listed_at line (separator_at line column).end)
 
--- the formals from a column on, at most as many as a line may have characters
+-- the formals at or after a column, at most as many as a line may have characters, and the flags of their list
 abbrev pub formals_after : Bytes → ℕ → FormalList
 formals_after line column = formals_within line_limit line column
 
@@ -79,7 +80,7 @@ pub record MacroNamed : Type 0 where
   pub name : Name
   pub formals : List MacroFormal
 
--- the result of a `.MACRO`: the macro's name and formals, or none if the name is bad or missing, and flags
+-- the result of a `.MACRO`: the macro's name and formals (none if the name is bad or missing), and flags
 pub record MacroHeader : Type 0 where
   pub named : Option MacroNamed
   pub flags : ℕ

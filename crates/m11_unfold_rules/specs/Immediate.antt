@@ -12,16 +12,16 @@ use Rattle.m11_scan_expressions.specs.Expressions.{KnownSymbols}
 use Rattle.m11_scan_expressions.specs.LeftOvers.{left_over, skip_flags}
 use Rattle.m11_scan_expressions.specs.Remarks.{Remarks, remarks_of}
 
--- the column after the comma, if the first of these tokens is one
+-- the column after the comma, if the first of these tokens is a comma
 abbrev pub after_comma : List Lexeme → Option ℕ
 after_comma [] = None
 after_comma (token ∷ tokens) = if is_comma token.sort then Some token.end else None
 
--- the column after the next token, if that is a comma
+-- the column after the comma, if the first token at or after a column is a comma
 abbrev pub column_after_comma : Bytes → ℕ → Option ℕ
 column_after_comma line column = after_comma (tokens_from line column)
 
--- I for a skipped character before the comma; without the comma, A, Q for a left-over token and I for a skipped character
+-- I for a skipped character before the comma; without a comma A, and also Q for a left-over token and I for a skipped character
 abbrev pub comma_flags : Bytes → ℕ → Option ℕ → ℕ
 comma_flags line column (Some end) = skip_flags line column end
 comma_flags line column None = bit_or flag_A (left_over line column)

@@ -22,7 +22,7 @@ pub record Repetition : Type 0 where
   pub formal : Name
   pub texts : List Bytes
 
--- the rounds, if there are a formal and a list, and the flags and symbols that were read
+-- the rounds (none without a formal or a list), and the flags and symbols that were read
 pub record Repeated : Type 0 where
   pub rounds : Option Repetition
   pub remarks : Remarks
@@ -42,8 +42,8 @@ abbrev pub spelled : Bytes → Actual → ActualTexts
 spelled line actual =
     record { texts = map (λ byte. byte ∷ []) (text_of line actual); remarks = remarks_of (actual_flags actual) [] }
 
--- the formal and the argument after it from a column on, if the formal is a name other than `.` and the argument isn't missing;
--- blanks, a comma or both may separate them
+-- the formal at or after a column, and the argument after it; none unless the first token there is a name other than `.`, which is
+-- the formal, and an argument follows. Blanks, a comma or both may separate the two
 abbrev pub begun_at : Bytes → ℕ → Bool → Option RepeatHeader
 begun_at line column gives_digits = elim (name_at (tokens_from line column)) [
   | None ↦ None
@@ -53,8 +53,9 @@ begun_at line column gives_digits = elim (name_at (tokens_from line column)) [
   ]
 ]
 
--- the rounds with the texts of the list; the line has the flag I for a skipped character before the formal, the flags and symbols of the
--- list, and the flags of what is left over after it; without a formal or a list, the rounds are None, and the line has `bad_flags`
+-- the rounds with the texts of the list. The remarks have I for a skipped character before the formal, the flags and symbols of the
+-- list, and the flags of what is left over after the list. Without a formal or a list, the rounds are None, and the remarks have the
+-- flags of a bad argument
 abbrev pub repeated : Bytes → ℕ → (Actual → ActualTexts) → Option RepeatHeader → Repeated
 repeated line column texts None = record { rounds = None; remarks = remarks_of (bad_flags line column) [] }
 repeated line column texts (Some begun) = record {
@@ -63,12 +64,12 @@ repeated line column texts (Some begun) = record {
       (remarks_of (left_over line begun.list.end) []);
 }
 
--- an `.IRP` from a column on: each actual of its list is the formal's text in one round
+-- an `.IRP` whose arguments begin at or after a column: each actual of its list is the formal's text in one round
 abbrev pub irp : KnownSymbols → Bytes → ℕ → Repeated
 irp known line column =
     repeated line column (λ list. listed known line list) (begun_at line column true)
 
--- an `.IRPC` from a column on: each character of its text is the formal's text in one round
+-- an `.IRPC` whose arguments begin at or after a column: each character of its text is the formal's text in one round
 abbrev pub irpc : Bytes → ℕ → Repeated
 irpc line column = repeated line column (λ list. spelled line list) (begun_at line column false)
 

@@ -23,13 +23,13 @@ most_bytes = 65536
 abbrev pub most_macros : ℕ
 most_macros = 256
 
--- the bytes of all bodies: of macros, including replaced ones, of open repeats, and of the open body
+-- the number of bytes of all bodies: of macros, including replaced ones, of open repeats, and of the open body
 abbrev pub bytes_of : Stage → ℕ
 bytes_of stage =
     let opened : ℕ = elim stage.opening [ None ↦ 0 | Some opening ↦ size_of opening.taken.body ] in
     stage.defined_bytes + bytes_held stage.left + opened
 
--- whether one more condition may be opened: fewer than 32 are open, including those around the innermost expansion
+-- whether one more condition may be opened: fewer than 32 are open, including those around each open expansion
 abbrev pub has_room : Stage → Bool
 has_room stage = nat_lt (length stage.conditions.entered + conditions_open stage.left) most_conditions
 

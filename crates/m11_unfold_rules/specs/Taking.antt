@@ -49,7 +49,8 @@ used (Defines name formals) body stage = record stage {
 used (Repeats formals rounds) body stage = opened None (size_of body) formals rounds body stage
 used Drops body stage = stage
 
--- the stage after a line of a body: the body gets one more line at this depth, or is closed by it and used
+-- the stage after a line of a body: either the line is added to the body, inside which `depth` bodies are then open, or the line
+-- closes the body, which is used
 abbrev pub into_body : Purpose → PartialBody → Bytes → Option ℕ → Stage → Stage
 into_body purpose taken text None stage = used purpose taken.body (record stage { opening = None })
 into_body purpose taken text (Some depth) stage =
@@ -57,8 +58,8 @@ into_body purpose taken text (Some depth) stage =
 
 -- ---- skipped lines
 
--- the conditions after an `.IFF`, `.IFT` or `.IFTF` among skipped lines: unchanged; or None, since the directive is live, if it
--- belongs to the skipped condition itself and this condition isn't beyond the limit
+-- the conditions, unchanged, after an `.IFF`, `.IFT` or `.IFTF` among skipped lines; None, since the directive is live, if it belongs to
+-- the skipped condition itself and this condition isn't beyond the limit
 abbrev pub switch_in : OpenConditions → Option OpenConditions
 switch_in conditions =
     if conditions.is_past then Some conditions else (if conditions.nested == 0 then None else Some conditions)

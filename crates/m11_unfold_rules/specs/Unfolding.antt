@@ -11,8 +11,8 @@ use Rattle.m11_unfold_rules.specs.Limits.{next_fault}
 use Rattle.m11_unfold_rules.specs.Stages.{Stage, start}
 use Rattle.m11_unfold_rules.specs.Taking.{Live, Passes, Gives, move}
 
--- a live line, what was known when its operator was executed, the operator's result, and the number of actuals of the innermost
--- macro call around the line
+-- a live line, what was known when its operator was executed, the operator's result, and the number of actuals of the innermost macro call
+-- around the line, if there is one
 pub record UnfoldedLine : Type 0 where
   pub live : Live
   pub known : KnownSymbols

@@ -16,9 +16,10 @@ use m11_scan_expressions::{Names, Remarks, number_at};
 use m11_scan_statements::{Actual, ActualKind, next_actual, separator_at};
 use std::alloc::{AllocError, Global};
 
-/// The texts of the actuals from a column of a line on, at most `wanted` of them. A further actual is flagged Q and ignored, with
-/// the rest of the line. An actual without its `>` is flagged A. `\` with an expression becomes the digits of its number in the
-/// current radix. The flags, and the symbols of such expressions, are added to the remarks. Error: memory may be refused.
+/// The texts of the actuals at or after a column of a line, at most `wanted` of them. A further actual is flagged Q and ignored, with
+/// the rest of the line. An actual without its `>` is flagged A. The text of a `\` and an expression is the digits of the expression's
+/// number, in the current radix. These flags, and the flags and symbols of such expressions, are added to the remarks. Error: memory
+/// was refused.
 pub fn actuals_from<N: Names>(
     alloc: Global,
     line: &Line,
@@ -47,7 +48,7 @@ pub fn actuals_from<N: Names>(
     Ok(texts)
 }
 
-// Whether a further actual follows from a column on.
+// Whether an actual follows at or after a column.
 fn has_actual(line: &Line, column: u8) -> bool
     ensures { result ≡ is_some (next_actual line.now.text column true) }
 {
@@ -57,8 +58,8 @@ fn has_actual(line: &Line, column: u8) -> bool
     }
 }
 
-// The text of an actual: its characters, or for `\` the digits of its number. The actual's flags and symbols are added to the
-// remarks. Error: memory may be refused.
+// The text of an actual: its characters, or after `\` the digits of the expression's number. The actual's flags and symbols are
+// added to the remarks. Error: memory was refused.
 pub(crate) fn text_of<N: Names>(
     alloc: Global,
     line: &Line,
@@ -77,7 +78,7 @@ pub(crate) fn text_of<N: Names>(
     }
 }
 
-// The characters of an actual. A is added to the remarks if the actual lacks its `>`. Error: memory may be refused.
+// The characters of an actual. A is added to the remarks if the actual lacks its `>`. Error: memory was refused.
 fn characters(
     alloc: Global,
     line: &Line,
@@ -93,7 +94,7 @@ fn characters(
 }
 
 // The digits, in the current radix, of the number of the expression at a column. The flags and symbols of the expression are added
-// to the remarks. Error: memory may be refused.
+// to the remarks. Error: memory was refused.
 fn numeral<N: Names>(
     alloc: Global,
     line: &Line,

@@ -38,9 +38,11 @@ pub struct Finding {
     pub(crate) flags: ErrorFlags,
 }
 
-/// Evaluates the condition at a column of a line: its name and its arguments. A missing or unknown condition name, a bad name in DF or NDF,
-/// or a missing argument (except in B and NB) makes it false and is flagged A. The flags and the symbols of the arguments are added to the
-/// remarks. Error: memory may be refused.
+/// Evaluates the condition at a column of a line: its name and its arguments. It is false, and flagged A, if its name is missing or
+/// unknown, a name of DF or NDF is bad, or an argument is missing. But a missing argument of B or NB counts as empty, and so does a
+/// missing second argument of IDN or DIF after a comma. An argument without its `>` is flagged A, and a character that is skipped outside
+/// texts is flagged I. These flags, the flags of an expression, and the symbols of the arguments are added to the remarks. Error: memory
+/// was refused.
 pub fn condition<N: Names>(
     line: &Line,
     column: u8,
@@ -61,7 +63,7 @@ pub fn condition<N: Names>(
 }
 
 // Evaluates the condition at a column, with I for a skipped character before its name. A missing condition is false, and flagged A. The
-// symbols of the arguments are added to the remarks; the flags are only returned. Error: memory may be refused.
+// symbols of the arguments are added to the remarks; the flags are only returned. Error: memory was refused.
 fn named_at<N: Names>(
     line: &Line,
     column: u8,
@@ -93,7 +95,7 @@ fn named_at<N: Names>(
 }
 
 // Evaluates the condition that a token names, on the arguments after the token. An unknown condition is false, and flagged A. The symbols
-// of the arguments are added to the remarks. Error: memory may be refused.
+// of the arguments are added to the remarks. Error: memory was refused.
 fn asked_by<N: Names>(
     line: &Line,
     name: Token,
@@ -122,8 +124,8 @@ fn condition_of(sort: Sort, text: &[u8]) -> Option<Condition>
     }
 }
 
-// Evaluates a condition on its arguments, which are read from a column on. The symbols of the arguments are added to the remarks.
-// Error: memory may be refused.
+// Evaluates a condition on its arguments, which begin at or after a column. The symbols of the arguments are added to the remarks.
+// Error: memory was refused.
 fn asked<N: Names>(
     line: &Line,
     column: u8,
@@ -147,7 +149,7 @@ fn asked<N: Names>(
     }
 }
 
-// False, and flagged A: the result for an unknown condition, or a bad or missing argument.
+// False, and flagged A: the result for a missing or unknown condition, or a missing argument.
 fn refused(end: u8) -> Finding
     ensures { IsFound result (spec.refused end) }
 {
@@ -159,7 +161,7 @@ fn refused(end: u8) -> Finding
 }
 
 // EQ NE GT LT GE LE: compares the expression at a column with 0. Without an expression the result is false, and flagged A. The symbols in
-// the expression are added to the remarks. Error: memory may be refused.
+// the expression are added to the remarks. Error: memory was refused.
 #[tactic(auto, using(m11_scan_expressions::proofs::Beginning::begins))]
 fn numeric<N: Names>(
     line: &Line,
@@ -209,7 +211,7 @@ pub(crate) fn is_negative(number: u16) -> bool
 }
 
 // DF NDF: tests whether the names at a column are defined. If one is bad or missing, the result is false, and flagged A. The symbols read
-// are added to the remarks. Error: memory may be refused.
+// are added to the remarks. Error: memory was refused.
 fn defined<N: Names>(
     line: &Line,
     column: u8,
@@ -238,7 +240,8 @@ fn defined<N: Names>(
     }
 }
 
-// B NB: whether an argument has only blanks and tabs, or for NB, whether it has any other character. A missing argument is empty.
+// B NB: whether an argument has only blanks and tabs, or for NB, whether it has any other character. A missing argument counts as
+// empty.
 fn blank(line: &Line, column: u8, wants_blank: bool) -> Finding
     ensures { IsFound result (spec.blank line.now.text column wants_blank) }
 {
@@ -262,14 +265,15 @@ fn is_blank_text(text: &[u8]) -> bool
     run_length(text, Class::Blank) == text.len()
 }
 
-/// A for an argument without its `>`.
+/// A if an argument lacks its `>`, otherwise no flags.
 pub fn actual_flags(actual: &Actual) -> ErrorFlags
     ensures { bits_of result ≡ spec.actual_flags actual.now }
 {
     ErrorFlags::A.when(!actual.is_closed)
 }
 
-// IDN DIF: compares two arguments byte for byte. If the first is missing, or the second and its comma, the result is false, and flagged A.
+// IDN DIF: compares two arguments byte for byte. If the first argument is missing, or both the second one and the comma before it are
+// missing, the result is false, and flagged A.
 fn same(line: &Line, column: u8, wants_same: bool) -> Finding
     ensures { IsFound result (spec.same line.now.text column wants_same) }
 {
@@ -279,8 +283,8 @@ fn same(line: &Line, column: u8, wants_same: bool) -> Finding
     }
 }
 
-// Compares the first argument of IDN or DIF with the second, which may be empty after a comma. With neither a second one nor a
-// comma the result is false, and flagged A.
+// Compares the first argument of IDN or DIF with the second. A second argument that is missing after a comma counts as empty. If the
+// comma is missing too, the result is false, and flagged A.
 fn second_at(line: &Line, wants_same: bool, first: Actual) -> Finding
     ensures { IsFound result (spec.second_at line.now.text wants_same first
         (separator_at line.now.text first.end)) }

@@ -39,14 +39,14 @@ pub struct JointAt {
 // The result of a list of names.
 #[derive(Clone, Copy, PartialEq, Eq, Debug)]
 pub(crate) struct NamesVerdict {
-    // The result, unless one of the names is bad or missing.
+    // The result; None if one of the names is bad or missing.
     pub verdict: Option<bool>,
     // The column after the names, or the end of the line if one is bad or missing.
     pub end: u8,
 }
 
 // Tests whether each name at a column is defined, or undefined for NDF, and combines the results by the `&` and `!` between the names, from
-// left to right. There is no result if a name is bad or missing. The symbols read are added to the remarks. Error: memory may be refused.
+// left to right. There is no result if a name is bad or missing. The symbols read are added to the remarks. Error: memory was refused.
 pub(crate) fn names_at<N: Names>(
     line: &Line,
     column: u8,
@@ -83,8 +83,8 @@ pub(crate) fn names_at<N: Names>(
     Ok(at_bad(line))
 }
 
-// The result for the symbol in a token, or None if the token isn't a symbol. The symbol is added to the remarks. Error: memory may be
-// refused.
+// The result for the symbol that a token refers to, or None if the token refers to no symbol. The symbol is added to the remarks. Error:
+// memory was refused.
 fn name_verdict<N: Names>(
     line: &Line,
     token: Token,
@@ -104,7 +104,7 @@ fn name_verdict<N: Names>(
     }
 }
 
-// Whether a symbol is defined, or undefined for NDF. The symbol is added to the remarks. Error: memory may be refused.
+// Whether a symbol is defined, or undefined for NDF. The symbol is added to the remarks. Error: memory was refused.
 fn symbol_verdict<N: Names>(
     symbol: &Symbol,
     wants_defined: bool,
@@ -147,7 +147,7 @@ fn tested<N: Names>(names: &N, symbol: Symbol, wants_defined: bool) -> bool
     is_as(wants_defined, is_defined(names.meaning(symbol)))
 }
 
-// Whether something is as wanted: `found` itself, or its negation if `wanted` is false.
+// Whether `found` equals `wanted`: `found` itself, or its negation if `wanted` is false.
 pub(crate) fn is_as(wanted: bool, found: bool) -> bool
     ensures { result ≡ spec.is_as wanted found }
 {

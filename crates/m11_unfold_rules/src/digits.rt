@@ -9,7 +9,7 @@ use std::alloc::{AllocError, Global};
 // The most digits of a word: 16 in base 2.
 const DIGIT_LIMIT: u8 = 16;
 
-// The digits of a word in a base, without leading zeros; a single 0 for 0. Error: memory may be refused.
+// The digits of a word in a base, without leading zeros; a single 0 for 0. Error: memory was refused.
 pub(crate) fn digits_of(alloc: Global, base: u32, number: u16) -> Result<Vec<u8>, AllocError>
     requires least { 2 ≤ base }
     requires most { base ≤ 10 }
@@ -18,7 +18,7 @@ pub(crate) fn digits_of(alloc: Global, base: u32, number: u16) -> Result<Vec<u8>
     last_digits(alloc, base, number, DIGIT_LIMIT)
 }
 
-// The last `bound` digits of a word in a base, or all of them if it has fewer. Error: memory may be refused.
+// The last `bound` digits of a word in a base, or all of them if it has fewer. Error: memory was refused.
 fn last_digits(alloc: Global, base: u32, number: u16, bound: u8) -> Result<Vec<u8>, AllocError>
     requires least { 2 ≤ base }
     requires most { base ≤ 10 }

@@ -22,7 +22,7 @@ pub struct FormalTexts {
 }
 
 /// The text that replaces each formal: its actual, or an empty text if there is none. If the formal asks for it, an empty text
-/// becomes a created local symbol. The first of these symbols has the number `created`; 30000 follows 65535. Error: memory may be
+/// becomes a created local symbol. The first of these symbols has the number `created`; 30000 follows 65535. Error: memory was
 /// refused.
 pub fn fill(
     alloc: Global,
@@ -55,7 +55,7 @@ struct FilledFormal {
 }
 
 // The text that replaces a formal: its actual `text`, or a created local symbol if the actual is empty and the formal asks for one.
-// Error: memory may be refused.
+// Error: memory was refused.
 fn fill_formal(
     alloc: Global,
     formal: MacroFormal,
@@ -109,7 +109,7 @@ fn created_after(number: u16) -> u16
     }
 }
 
-// The created local symbol with this number: decimal digits and a `$`. Error: memory may be refused.
+// The created local symbol with this number: decimal digits and a `$`. Error: memory was refused.
 fn created_text(alloc: Global, number: u16) -> Result<Vec<u8>, AllocError>
     ensures { IfOk result (λ text. text.items ≡ spec.created_text number) }
 {

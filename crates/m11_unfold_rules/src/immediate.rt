@@ -24,9 +24,9 @@ pub struct Immediate {
     pub statement: Option<u8>,
 }
 
-/// Evaluates the condition of an `.IIF` from a column on, and finds the statement after the comma. Without the comma the line is
-/// flagged A, and Q for a left-over token. A skipped character is flagged I. The flags, and the symbols of the condition, are added
-/// to the remarks. Error: memory may be refused.
+/// Evaluates the condition of an `.IIF` at a column, and finds the statement after the comma. Without a comma the line is flagged A,
+/// and also Q if a token is left over. A skipped character before the statement is flagged I. These flags, and the flags and symbols
+/// of the condition, are added to the remarks. Error: memory was refused.
 pub fn iif<N: Names>(
     line: &Line,
     column: u8,
@@ -48,7 +48,7 @@ pub fn iif<N: Names>(
     })
 }
 
-/// The column after the comma, if the next token from this column on is one.
+/// The column after the comma, if the first token at or after this column is a comma.
 pub fn after_comma(line: &Line, column: u8) -> Option<u8>
     ensures { result ≡ spec.after_comma (tokens_from line.now.text column) }
 {
@@ -64,7 +64,7 @@ fn is_comma(sort: Sort) -> bool
     matches!(sort, Sort::Comma)
 }
 
-// I for a skipped character before the comma. Without the comma, A, Q for a left-over token and I for a skipped character.
+// I for a skipped character before the comma. Without a comma: A, and also Q for a left-over token and I for a skipped character.
 fn comma_flags(line: &Line, column: u8, statement: Option<u8>) -> ErrorFlags
     ensures { bits_of result ≡ spec.comma_flags line.now.text column statement }
 {

@@ -33,10 +33,10 @@ pub struct RepeatHeader {
     pub(crate) list: Actual,
 }
 
-/// Reads the formal and the list of an `.IRP` from a column on. The list has brackets around its actuals, or is a single actual.
-/// Without a name for the formal, or without a list, the line is flagged A and the result is None. A list without its `>` is
-/// flagged A, a left-over token Q, and a skipped character I. The flags, and the symbols of the list, are added to the remarks.
-/// Error: memory may be refused.
+/// Reads the formal and the list of an `.IRP`, at or after a column. The list has brackets around its actuals, or is a single actual.
+/// If the formal is bad or missing, or the list is missing, the line is flagged A and the result is None. A list without its `>` is
+/// flagged A, a left-over token Q, and a skipped character I. These flags, and the flags and symbols of the actuals, are added to the
+/// remarks. Error: memory was refused.
 pub fn irp<N: Names>(
     alloc: Global,
     line: &Line,
@@ -62,9 +62,9 @@ pub fn irp<N: Names>(
     }))
 }
 
-/// Reads the formal and the text of an `.IRPC` from a column on. Each character of the text is the actual of a round. Without a
-/// name for the formal, or without a text, the line is flagged A and the result is None. A text without its `>` is flagged A, a
-/// left-over token Q, and a skipped character I. The flags are added to the remarks. Error: memory may be refused.
+/// Reads the formal and the text of an `.IRPC`, at or after a column. Each character of the text is the actual of one round. If the
+/// formal is bad or missing, or the text is missing, the line is flagged A and the result is None. A text without its `>` is flagged
+/// A, a left-over token Q, and a skipped character I. The flags are added to the remarks. Error: memory was refused.
 pub fn irpc(
     alloc: Global,
     line: &Line,
@@ -89,8 +89,9 @@ pub fn irpc(
     }))
 }
 
-// The formal and the argument after it from a column on, if the formal is a name other than `.` and the argument isn't missing.
-// Blanks, a comma or both may separate them. `\` is an ordinary character in the argument unless `gives_digits`.
+// The formal at or after a column, and the argument after it. None unless the next token is a name other than `.`, which is the
+// formal, and an argument follows. Blanks, a comma or both may separate the two. `\` is an ordinary character in the argument unless
+// `gives_digits` is true.
 fn begun_at(line: &Line, column: u8, gives_digits: bool) -> Option<RepeatHeader>
     ensures { result ≡ spec.begun_at line.now.text column gives_digits }
 {
@@ -104,7 +105,7 @@ fn begun_at(line: &Line, column: u8, gives_digits: bool) -> Option<RepeatHeader>
 }
 
 // The actuals of an `.IRP`: those in its brackets, or a single one without brackets. Their flags and symbols are added to the
-// remarks. Error: memory may be refused.
+// remarks. Error: memory was refused.
 fn listed<N: Names>(
     alloc: Global,
     line: &Line,
@@ -128,7 +129,7 @@ fn listed<N: Names>(
 }
 
 // The actuals of a bracketed list, which is read as a line of its own, and flagged A if it lacks its `>`. The flags, and the
-// symbols of the actuals, are added to the remarks. Error: memory may be refused.
+// symbols of the actuals, are added to the remarks. Error: memory was refused.
 fn listed_in<N: Names>(
     alloc: Global,
     line: &Line,
@@ -155,7 +156,7 @@ fn line_of(line: &Line, actual: &Actual) -> Line
     Line::from_bytes(text)
 }
 
-// The actuals of an `.IRPC`: the characters of its text. A is added to the remarks if the text lacks its `>`. Error: memory may be
+// The actuals of an `.IRPC`: the characters of its text. A is added to the remarks if the text lacks its `>`. Error: memory was
 // refused.
 fn spelled(
     alloc: Global,
@@ -170,7 +171,7 @@ fn spelled(
     characters_of(alloc, list.inside.text(line))
 }
 
-// Each character of a text as a text of its own. Error: memory may be refused.
+// Each character of a text as a text of its own. Error: memory was refused.
 fn characters_of(alloc: Global, text: &[u8]) -> Result<Vec<Vec<u8>>, AllocError>
     ensures { IfOk result (λ texts. texts_of texts.items ≡ map (λ byte. byte ∷ []) text.now) }
 {

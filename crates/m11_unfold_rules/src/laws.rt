@@ -103,7 +103,8 @@ pub fn conditions_give_all_or_nothing()
         (after_block stage block 0) }
 {}
 
-/// An unfolding and another that begins at its last stage are together one unfolding, with the lines of both.
+/// An unfolding and another that begins at its last stage are together one unfolding, with the lines of the first and then those of
+/// the second.
 pub fn unfoldings_follow_each_other()
     ensures { (before middle after : Stage) (done later : List UnfoldedLine) → Leads before done middle → Leads middle later after
         → Leads before (done ++ later) after }

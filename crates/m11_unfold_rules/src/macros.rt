@@ -33,9 +33,9 @@ pub struct Header {
     pub formals: Vec<MacroFormal>,
 }
 
-/// Reads a macro's name and formals from a column on. If the name is bad or missing, the result is None and the line is flagged A.
-/// Anything but a formal ends the list and is flagged A. A skipped character is flagged I. The flags are added to the remarks.
-/// Error: memory may be refused.
+/// Reads a macro's name and formals, at or after a column. If the name is bad or missing, the result is None and the line is flagged
+/// A. Any token but a formal ends the list and is flagged A. A skipped character is flagged I. The flags are added to the remarks.
+/// Error: memory was refused.
 pub fn header_at(
     alloc: Global,
     line: &Line,
@@ -67,7 +67,7 @@ pub struct NameAt {
     pub end: u8,
 }
 
-/// The name in the next token from a column on, if the source can define it: any name but `.`.
+/// The name in the first token at or after a column; None if there is no such token, or if it isn't a name other than `.`.
 pub fn name_at(line: &Line, column: u8) -> Option<NameAt>
     ensures { result ≡ spec.name_at (tokens_from line.now.text column) }
 {
@@ -102,7 +102,7 @@ struct Formals {
     flags: ErrorFlags,
 }
 
-// Reads at most `bound` formals from a column on, with the flags of their list. Error: memory may be refused.
+// Reads at most `bound` formals, at or after a column, with the flags of their list. Error: memory was refused.
 fn formals_within(
     alloc: Global,
     line: &Line,
@@ -155,7 +155,7 @@ pub enum FormalOrEnd {
     More(FormalAt),
 }
 
-// The next item in a list of formals, at a column. Anything but a formal ends the list.
+// The next item in a list of formals, at or after a column. Anything but a formal ends the list.
 fn listed_at(line: &Line, column: u8) -> FormalOrEnd
     ensures { listed_seen result ≡ spec.listed_at line.now.text column }
 {

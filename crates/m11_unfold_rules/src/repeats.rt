@@ -11,9 +11,9 @@ use m11_scan::{ErrorFlags, Line};
 use m11_scan_expressions::{Names, Remarks, has_expression, left_over, number_at};
 use std::alloc::AllocError;
 
-/// Reads the number of rounds of a `.REPT` from a column on: 0 to 32767. A negative number means 0; a missing one means 0 and is
-/// flagged A. A left-over token is flagged Q, and a skipped character I. The flags, and the symbols of the number, are added to the
-/// remarks. Error: memory may be refused.
+/// Reads the number of rounds of a `.REPT` at a column: 0 to 32767. A negative number means 0; a missing one means 0 and is flagged A.
+/// A left-over token is flagged Q, and a skipped character I. These flags, and the flags and symbols of the number, are added to the
+/// remarks. Error: memory was refused.
 pub fn rept_count<N: Names>(
     line: &Line,
     column: u8,

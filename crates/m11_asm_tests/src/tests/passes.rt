@@ -11,7 +11,8 @@ use m11_obj::{PieceContent, RelocationKind};
 use m11_scan::{ErrorFlags, Line};
 use std::alloc::{AllocError, Global};
 
-// Adds to a text the flags of a line, its unrelocated words in octal, each after a blank, `?` for anything else it emits, and `;`.
+// Appends to `text` the flags of a line, then what the line emits, in order, then `;`: an unrelocated word as a blank and its octal digits,
+// and anything else as `?`.
 fn put_line(
     flags: ErrorFlags,
     contents: &[PieceContent],
@@ -109,8 +110,8 @@ fn read_changed(
     }
 }
 
-// A label in two passes over different sources: what the row shows, the source of the first pass, that of the second one, and the flags and
-// words of the live lines in the second pass.
+// A label in two passes, each over its own source: what the row shows, the source of the first pass, that of the second one, and the flags
+// and words of the live lines in the second pass.
 struct Row {
     shows: &'static str,
     before: &'static [&'static str],

@@ -1,5 +1,5 @@
-//! What the tests of whole assemblies share: bytes of objects, the outputs of an assembly, those that are expected, and the check that both
-//! agree.
+//! What the tests of whole assemblies share: bytes of objects, the outputs of an assembly, the expected outputs, and the check that these
+//! two agree.
 
 mod failing;
 mod streaming;

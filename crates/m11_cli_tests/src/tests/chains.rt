@@ -17,20 +17,20 @@ const FETCHES: Texts<'static> = &[b".TITLE A\nSTART: MOV F,R0\nHALT\n.END START\
 
 const IS_FETCHED: Texts<'static> = &[b".TITLE B\n", b"F:: .WORD 123\n.END\n"];
 
-// The bytes from octal 1000 on. In octal, their words are 016700 000002 000000 000123.
+// The bytes of the linked program, the first at octal 1000. In octal, their words are 016700 000002 000000 000123.
 const FETCHED: &[u8] = &[0xC0, 0x1D, 0x02, 0x00, 0x00, 0x00, 0x53, 0x00];
 
 const PUTS_TWICE: Texts<'static> = &[b".ASECT\n.=1000\n.WORD 1\n.=1000\n.WORD 2\n.END 1000\n"];
 
 const LIES_AT_A_DEVICE: Texts<'static> = &[b".ASECT\n.=177560\n.WORD 1\n.END\n"];
 
-// A source whose section, from octal 1000 on, has its last byte at octal 160000, the first address of device registers.
+// A source whose section, if it begins at octal 1000, has its last byte at octal 160000, the first address of device registers.
 const IS_TOO_LARGE: Texts<'static> = &[b".BLKB 157001\n.END\n"];
 
 const CALLS_ITSELF: Texts<'static> = &[b".MACRO A\nA\n.ENDM\nA\n.END\n"];
 
-// A chain: its name, its assemblies, the size of its memory in words, the start of its program, the bytes of its memory from octal 1000 on,
-// and its fault, if any.
+// A chain: its name, its assemblies, the size of its memory in words, the start of its program, some bytes of its memory, the first at
+// octal 1000, and its fault, if any.
 type Row<'a> = (
     &'a str,
     &'a [Texts<'a>],
@@ -69,7 +69,7 @@ fn sources_of(alloc: Global, sources: &[Texts<'_>]) -> Result<Vec<Vec<Vec<u8>>>,
     Ok(all)
 }
 
-// The result of the chain of these assemblies, linked from octal 1000 on.
+// The result of the chain of these assemblies, linked with relocatable sections that begin at octal 1000.
 fn chain_of(
     rt: &(impl Abort + AllocGlobal),
     sources: &[Texts<'_>],
@@ -86,8 +86,8 @@ fn chain_of(
     }
 }
 
-// Checks that a chain yielded the machine and the start of its row: the memory of the machine has the row's number of words, and the row's
-// bytes from octal 1000 on.
+// Checks that a chain that yielded this machine and this start agrees with its row: the row has no fault and has this start, and the memory
+// of the machine has the row's number of words, and the row's bytes, the first at octal 1000.
 fn has(rt: &impl Abort, row: Row<'_>, machine: &Machine, found: u16) {
     let (name, _, words, start, bytes, refusal) = row;
     assert!(rt; refusal.is_none(), "{name}: a machine");

@@ -1,4 +1,4 @@
-//! The memory after tapes that fail, the bytes read from a tape, and runs of such tapes.
+//! The memory after tapes that fail, the bytes read from a tape, and runs of such tapes. Addresses in comments are octal.
 
 use m11_base::{FuseFeed, FuseSink, MemoryFeed, WriterSink};
 use m11_cpu::{LoadFault, Machine, SimDone, SimFault, Start, Stop, sim_run};
@@ -7,7 +7,7 @@ use std::process::Abort;
 use std::test::Fail;
 
 // `MOV #1,R0` and `HALT` at 1000, where the program starts: a block of 13 bytes, and the transfer block. No load reads the four bytes
-// after that.
+// after the transfer block.
 const HALTS: [u8; 24] = [
     0o001, 0o000, 0o014, 0o000, 0o000, 0o002, 0o300, 0o025, 0o001, 0o000, 0o000, 0o000, 0o033,
     0o001, 0o000, 0o006, 0o000, 0o000, 0o002, 0o367, 0o001, 0o001, 0o001, 0o001,
@@ -27,24 +27,24 @@ const HALTS_WITH_A_WRONG_SUM: [u8; 20] = [
     0o001, 0o000, 0o006, 0o000, 0o000, 0o002, 0o367,
 ];
 
-// The bytes 1 and 2 from 157777 on, and a wrong checksum: the second byte lies past the largest memory.
+// The bytes 1 and 2 for 157777 and 160000, and a wrong checksum: the second byte lies past the largest memory.
 const PAST_THE_MEMORY: [u8; 9] = [
     0o001, 0o000, 0o010, 0o000, 0o377, 0o337, 0o001, 0o002, 0o027,
 ];
 
-// The bytes 1 and 0 from 177560 on, the addresses of the console.
+// The bytes 1 and 0 for 177560 and 177561, the addresses of a register of the console.
 const ONTO_THE_CONSOLE: [u8; 9] = [
     0o001, 0o000, 0o010, 0o000, 0o160, 0o377, 0o001, 0o000, 0o207,
 ];
 
-// The byte 101 at 020000. The transfer address is 020000 too.
+// The octal byte 101 for 020000, the first address past 4,096 words. The transfer address is 020000 too.
 const PAST_4096_WORDS: [u8; 15] = [
     0o001, 0o000, 0o007, 0o000, 0o000, 0o040, 0o101, 0o227, 0o001, 0o000, 0o006, 0o000, 0o000,
     0o040, 0o331,
 ];
 
-// A load, and what it shows: a tape, how many of its bytes are there, how many calls of its reader succeed, the size of the memory in
-// words, the outcome, and words in memory afterwards, each with its address. A call returns a byte, or the end.
+// A load: what it shows, a tape, how many bytes of the tape the feed has, how many calls of the feed succeed, the size of the memory in
+// words, the outcome, and words in memory afterwards, each with its address. A call that succeeds returns a byte, or the end.
 #[derive(Clone, Copy)]
 struct Load<'a> {
     shows: &'a str,
@@ -56,8 +56,8 @@ struct Load<'a> {
     leaves: &'a [(u16, u16)],
 }
 
-// Tapes that fail, and one that doesn't: memory holds the bytes before the fault, and the reader isn't called again after the call that
-// decides the outcome.
+// Loads of tapes that fail, and of one that doesn't: memory holds the bytes before the fault, and the feed isn't called again after the
+// call that decides the outcome.
 static LOADS: [Load<'static>; 8] = [
     Load {
         shows: "a whole tape, and nothing after it",
@@ -133,7 +133,7 @@ static LOADS: [Load<'static>; 8] = [
     },
 ];
 
-// The load of `ECHO`, whose reader fails after this number of calls: its outcome, and words in memory afterwards.
+// The load of `ECHO` from a feed that fails after this number of calls, with its outcome and words in memory afterwards.
 fn failing_after(calls: u64) -> Load<'static> {
     let leaves: &[(u16, u16)] = match calls {
         0..=6 => &[(0o1000, 0o000000), (0o1002, 0o000000)],
@@ -172,7 +172,7 @@ fn word_at(machine: &Machine, address: u16) -> Option<u16> {
     Some(u16::from_le_bytes([machine.byte(address), machine.byte(following)]))
 }
 
-// The feed of a load: the bytes of the tape that are there, from a reader that fails after the load's number of calls.
+// The feed of a load: the first `given` bytes of the tape. It fails after the load's number of calls.
 fn feed_of<'a>(rt: &impl Abort, row: Load<'a>) -> FuseFeed<MemoryFeed<'a>> {
     assert!(rt; row.given <= row.tape.len());
     FuseFeed::new(MemoryFeed::new(&row.tape[..row.given]), row.calls)
@@ -189,8 +189,8 @@ fn is_loaded(rt: &impl Abort, row: Load<'_>, machine: &mut Machine) {
     }
 }
 
-// Checks the outcome and the texts of a run against the outcome of its load: if the load fails, so does the run, and it reports nothing;
-// otherwise it halts after two steps. In both cases it sends nothing.
+// Checks the outcome and the output of a run against the expected outcome of its load. If the load fails, the run must fail with the same
+// fault and report nothing; otherwise it must halt after two steps and report that. In both cases it must send nothing.
 fn is_told(
     rt: &impl Abort,
     row: Load<'_>,
@@ -213,7 +213,8 @@ fn is_told(
     );
 }
 
-// Runs the same tape and checks that the outcome agrees. Nothing may be read from its console or sent to it.
+// Runs the tape of a load, and checks that the outcome of the run agrees with that of the load. The run may not read from the console or
+// send to it.
 fn is_run(rt: &(impl Abort + AllocGlobal), row: Load<'_>) {
     let mut sent = Vec::new(rt.alloc());
     let mut reported = Vec::new(rt.alloc());
@@ -233,7 +234,7 @@ fn is_run(rt: &(impl Abort + AllocGlobal), row: Load<'_>) {
     drop(reported);
 }
 
-// Loads and runs a tape, and checks both against its row.
+// Loads and runs the tape of a row, and checks both outcomes against the row.
 fn check(rt: &(impl Abort + AllocGlobal), row: Load<'_>) -> Result<(), Fail> {
     assert!(rt; 4_096 <= row.words && row.words <= 28_672);
     let mut machine = Machine::new(rt.alloc(), row.words)?;

@@ -1,4 +1,4 @@
-//! Single steps, and runs between them.
+//! Single steps, and runs between them. Addresses in comments are octal.
 
 use m11_base::Register::{Pc, R0, Sp};
 use m11_base::{MemoryFeed, MemorySink, Register, Sink};
@@ -99,7 +99,7 @@ fn machine_of(alloc: Global, tape: &[u8]) -> Result<Machine, Fail> {
     Ok(machine)
 }
 
-// Makes a call on a machine whose input has ended, and returns whether the call returned its expected value.
+// Makes a call on a machine with an empty input, and returns whether the call returned its expected value.
 fn returns<S: Sink>(machine: &mut Machine, sink: &mut S, call: Call) -> bool {
     let mut feed = MemoryFeed::new(b"");
     match call {
@@ -108,7 +108,7 @@ fn returns<S: Sink>(machine: &mut Machine, sink: &mut S, call: Call) -> bool {
     }
 }
 
-// Checks that all these facts hold of the machine.
+// Checks that all these facts hold for the machine.
 fn has_all(rt: &impl Abort, name: &str, machine: &Machine, facts: &[Fact]) {
     for fact in facts {
         let holds = match *fact {
@@ -119,7 +119,7 @@ fn has_all(rt: &impl Abort, name: &str, machine: &Machine, facts: &[Fact]) {
     }
 }
 
-// Makes the calls on a machine, and checks that each returns its value and that its facts hold afterwards.
+// Makes the calls on a machine, and checks that each returns its expected value and that its facts hold afterwards.
 fn all_return<S: Sink>(
     rt: &impl Abort,
     name: &str,

@@ -46,7 +46,7 @@ fn blocks_have_their_bytes_of_the_manual(rt: HostRuntime) -> Result<(), Fail> {
     is_framed(&rt, &block, &[1, 0, 0o14, 0, 0, 2], &code, 0o33);
     let transfer = tape_transfer(rt.alloc(), 0o1000)?;
     is_framed(&rt, &transfer, &[1, 0, 6, 0, 0, 2], &[], 0o367);
-    // the largest block of a tape: 65,529 times 7, and 0x1ff before it, is 0x701ce
+    // the largest block of a tape: 65,529 times 7, plus 0x1ff for the header, is 0x701ce
     let bytes = vec![in rt.alloc(); 7u8; 65_529]?;
     let largest = tape_block(rt.alloc(), 0, &bytes)?;
     is_framed(&rt, &largest, &[1, 0, 0xff, 0xff, 0, 0], &bytes, 0x32);

@@ -68,8 +68,8 @@ const END: NextByte = Ok(None);
 
 const FAILS: NextByte = Err(DeviceFault);
 
-// A row's name; the error of the second call of a reader of `abc`, if any; the number of calls that each of two fuses around it lets
-// through; and the results of the calls, one after another.
+// A row's name; the error of the second call of a reader of `abc`, if any; the numbers of calls that the inner and the outer of two
+// fuses around it let through; and the results of the calls, one after another.
 type Giving = (
     &'static str,
     Option<ErrorKind>,
@@ -81,7 +81,8 @@ type Giving = (
 #[rattlefmt::skip]
 static GIVING: [Giving; 7] = [
     ("the end again and again", None, u64::MAX, u64::MAX, &[A, B, C, END, END]),
-    // a fuse lets its number of calls through, the end included, and then fails at each call; of two fuses the shorter one fails first
+    // a fuse lets its number of calls through, the end included, and then fails at each call; of two fuses the one with the lower
+    // number fails first
     ("2 calls", None, 2, u64::MAX, &[A, B, FAILS, FAILS]),
     ("4 calls", None, 4, u64::MAX, &[A, B, C, END, FAILS, FAILS]),
     ("2 and 3 calls", None, 2, 3, &[A, B, FAILS, FAILS]),
@@ -129,8 +130,8 @@ fn feeds_give_their_bytes_and_fail_where_their_devices_do(rt: HostRuntime) -> Re
 // A call of a sink's `put`: the bytes, and how many of them the sink accepts, or None if it fails.
 type Put<'a> = (&'a [u8], Option<usize>);
 
-// A row's name; the error of the second call of a writer, if any; the number of calls and of bytes a call that a fuse around it lets
-// through; the number of calls that a second fuse around the first lets through; the puts; and the bytes written.
+// A row's name; the error of the second call of a writer, if any; the number of calls that a fuse around it lets through, and the
+// most bytes in each; the number of calls that a second fuse around the first lets through; the puts; and the bytes written.
 type Taking<'a> = (
     &'a str,
     Option<ErrorKind>,

@@ -59,7 +59,7 @@ fn records_have_their_bytes_of_the_manual(rt: HostRuntime) -> Result<(), Fail> {
     is_record(&rt, &Record::text(0, &[1, 0]), &[3, 0, 0, 0, 1, 0])?;
     is_record(&rt, &Record::internal_symbols(), &[5, 0])?;
     is_record(&rt, &Record::end_of_module(), &[6, 0])?;
-    // command 7 selects a section, command 4 stores the displacement of a global symbol
+    // command 7 selects a section, and command 4 stores the displacement of a global symbol
     let selects = Relocation {
         is_byte: false,
         displacement: 0,

@@ -3,7 +3,7 @@
 use super::same;
 use m11_scan::{Line, Sort, next_token};
 
-// A line from a column on, and its tokens: the sort, the first column and the characters of each.
+// A line, a column, and the line's tokens at or after the column: the sort, the first column and the characters of each.
 struct Row {
     line: &'static str,
     column: u8,

@@ -18,7 +18,7 @@ pub(crate) fn next_number(number: u64) -> u64 {
         .wrapping_add(1442695040888963407)
 }
 
-// A line of `length` characters, chosen by the numbers after `seed` in that sequence.
+// A line of `length` characters, chosen by the numbers after `seed` in the sequence of `next_number`.
 fn random_line(seed: u64, length: u8) -> Line {
     let mut line = Line::new();
     let mut number = seed;
@@ -29,8 +29,8 @@ fn random_line(seed: u64, length: u8) -> Line {
     line
 }
 
-// Whether two columns are in a line and in order, and `skipped_between` rightly says whether there are other characters between
-// them than blanks, tabs and a comment.
+// Whether two columns are in a line and in order, and `skipped_between` rightly says whether there are any characters between them
+// besides blanks, tabs and a comment.
 fn is_no_token(line: &Line, start: u8, end: u8) -> bool {
     if start > end || end > line.end() {
         return false;
@@ -131,8 +131,8 @@ fn check_line(rt: &impl Abort, line: &Line) {
     check_parts(rt, line);
 }
 
-// Checks that each part begins after the end of the one before it and that its columns are in order, up to the first part that
-// isn't closed, and that there is a last part.
+// Checks that each part begins after the end of the part before it, that its columns are in order, and that the parts come to an
+// end. A part that isn't closed is the last one checked.
 fn check_parts(rt: &impl Abort, line: &Line) {
     let mut column = 0;
     let mut is_first = true;

@@ -17,7 +17,8 @@ enum Shape {
 
 use Shape::{Assigns, AssignsGlobally, Nothing, Operates, SetsCounter, Words};
 
-// A line, its labels with the columns of their names, what follows them with its columns, and the flags of its labels.
+// A line; its labels, each with the first column of its name and the column after it; what follows the labels, with the columns that
+// a body of this form records, and then zeros; and the flags that don't depend on the body.
 struct Row {
     line: &'static str,
     labels: &'static [(LabelKind, u8, u8)],

@@ -9,8 +9,8 @@ use m11_unfold::{Act, Step, Unfolder};
 use m11_unfold_rules::{UnfoldFault, operator};
 use std::alloc::Global;
 
-// How many lines became live, how many of them don't belong to unfolding, and a sum over the bytes, the flags and the number of
-// symbols of each, in order.
+// The number of lines that became live, the number of these that don't belong to unfolding, and a checksum of the bytes, the flags
+// and the number of symbols of each live line, in order.
 #[derive(Clone, Copy, PartialEq, Eq, Debug)]
 struct Sum {
     lines: u32,
@@ -194,8 +194,8 @@ static LINES: [&str; 32] = [
     ".NARG C",
 ];
 
-// Unfolds `count` lines, chosen by the numbers after `seed` in a fixed sequence. Returns the sum of the live lines, and the fault
-// that ended the unfolding, if there was one.
+// Unfolds `count` lines, chosen by the numbers after `seed` in the sequence of `next_number`. Returns the sum of the live lines, and the
+// fault that ended the unfolding, if there was one.
 fn unfolded(alloc: Global, seed: u64, count: u8) -> (Sum, Option<UnfoldFault>) {
     let mut unfolder = Unfolder::new(alloc);
     let mut live = Sum::none();

@@ -35,7 +35,7 @@ returns-in_err-define-clause-takes c = λ source lines taken.
     c.lines.facts (c.lines.invariant.takes source lines taken) c.in_err-define.field-0.0
     c.lines.facts c.from_residual.result (c.in_err-define.ensures.turns c.lines.invariant.goes_on) c.from_residual.ensures.1
 
--- no line is left, just as if a further call had said so
+-- no line is left, just as if a further call had returned `NeedLine`
 pub returns-then-needs_line-clause-takes : goal.returns-then-needs_line-clause-takes
 returns-then-needs_line-clause-takes c = λ source lines taken.
     let some = placed_more c.the_calls_place_the_lines_of_a_source.ensures.defines source c.lines.pass.pass_state c.define.new.self.pass_state

@@ -46,7 +46,7 @@ returns-in_err-next-clause-takes g c = λ program source lines first same number
     c.in_err-next.field-0.0 (c.in_err-next.ensures.turns c.lines.invariant.goes_on) c.lines.writing
     c.from_residual.result c.from_residual.ensures.1
 
--- no line is left, just as if a further call had said so
+-- no line is left, just as if a further call had returned `NeedLine`
 pub returns-then-needs_line-clause-takes : goal.returns-then-needs_line-clause-takes
 returns-then-needs_line-clause-takes g c = λ program source lines first same number taken.
     let some = c.lines.invariant.takes program source lines first same number taken in

@@ -6,7 +6,7 @@ use Rattle.std.specs.Io.KnownBytes.{IsAtEnd, Keeps}
 use Rattle.std.proofs.KnownBytes.{Consumes-nil, Consumes-kept}
 use Rattle.m11_base.proofs.buffered.take_front.Goals as goal
 
--- a buffer that shows nothing after a filling shows the end
+-- if the buffer is empty after it was filled, the reader is at its end
 at_end : (old new : Option (List ℕ)) (shown : List ℕ) → length shown ≡ 0
     → IfSome old (λ xs. length shown ≡ 0 → xs ≡ []) → Keeps old new → OnSome old (IsAtEnd new)
 at_end None new shown none end kept = tt

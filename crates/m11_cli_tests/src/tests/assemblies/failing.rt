@@ -27,8 +27,8 @@ impl Device {
         }
     }
 
-    // Whether these are the outputs after the device failed in the assembly of a source without flags: nothing in the first pass; later a
-    // prefix of the object and of the listing, and messages only after all of both.
+    // Whether an assembly of a source without flags may have left these outputs when the device failed: nothing if it failed in the first
+    // pass; otherwise a prefix of the object and of the listing, and messages only after the whole of both.
     fn leaves(self, found: &Assembled, whole: &Assembled) -> bool {
         match self {
             Device::First => is_empty(found),

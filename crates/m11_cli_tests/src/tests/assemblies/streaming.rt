@@ -243,7 +243,7 @@ fn returns_again(mut second: Second, outputs: &mut Outputs) -> bool {
     outputs.end(second) == Err(fault) && shown && outputs.has(46, "")
 }
 
-// Whether a second pass, after a first one without lines, returns its fault again and writes nothing more.
+// Whether a second pass, after a first one without lines, returns the fault of `ENDLESS` again and writes nothing more.
 fn second_returns_again(alloc: Global) -> Result<bool, AsmFault> {
     let second = Second::new(alloc, symbols_of(alloc, &[])?)?;
     let mut outputs = Outputs::new(alloc);

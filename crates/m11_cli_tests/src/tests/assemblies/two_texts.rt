@@ -20,7 +20,7 @@ type Row = (
     &'static [&'static str],
 );
 
-// A label at another location than in the first text.
+// A label at a different location from that in the first text.
 #[rattlefmt::skip]
 const ELSEWHERE: Row = (
     ".WORD 1\nA: .WORD 2\n.END\n",
@@ -47,7 +47,7 @@ const ELSEWHERE: Row = (
     &["P 1: A: .WORD 2", "ERRORS DETECTED: 1"],
 );
 
-// A local label at another location than in the first text.
+// A local label at a different location from that in the first text.
 #[rattlefmt::skip]
 const LOCAL_ELSEWHERE: Row = (
     "NOP\n1$: BR 1$\n.END\n",

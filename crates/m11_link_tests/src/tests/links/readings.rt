@@ -9,7 +9,7 @@ use std::alloc::{AllocError, Global};
 use std::process::Abort;
 use std::test::Fail;
 
-// The first block of the module that defines F, with another module name but the checksum of the right one.
+// The first block of the module that defines F, with another module name but the checksum of the original block.
 #[rattlefmt::skip]
 const DEFINES_F_CHANGED: &[u8] = &[
     // The directory.

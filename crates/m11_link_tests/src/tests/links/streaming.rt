@@ -1,4 +1,4 @@
-//! The length of the tape while a second pass continues.
+//! The length of the tape during a second pass.
 
 use super::{DEFINES_F, READS_F};
 use m11_base::{MemoryFeed, MemorySink};

@@ -16,7 +16,7 @@ use Rattle.m11_asm_lines.specs.UsedSymbols.{Adds}
 use Rattle.m11_asm_lines.proofs.EachSeen.{each_seen}
 use Rattle.m11_asm_lines.proofs.used_symbols.UsedSymbols.add_storage.Goals as goal
 
--- a list of bytes reads what a list of words does
+-- a list of bytes uses the symbols that a list of words uses
 list_uses : (line : Bytes) (arguments : Arguments) (storage : Storage) → (storage ≡ WordList) ⊎ (storage ≡ ByteList)
     → storage_uses (storage_seen line arguments WordList) ≡ storage_uses (storage_seen line arguments storage)
 list_uses line arguments storage (inl is) = ap (λ (s : Storage). storage_uses (storage_seen line arguments s)) (sym is)

@@ -11,7 +11,7 @@ use Rattle.m11_unfold_rules.specs.Stages.{Stage}
 use Rattle.m11_asm_passes.proofs.Counting.{act_takes}
 use Rattle.m11_asm_passes.proofs.state.State.begin.Goals as goal
 
--- the first limit that is passed is the one reported
+-- the first limit that is exceeded is the one reported
 first_or : (first later : Option AsmFault) (stopped : AsmFault) → first ≡ Some stopped → option_or first later ≡ Some stopped
 first_or first later stopped is = ap (λ (o : Option AsmFault). option_or o later) is
 
