@@ -12,7 +12,7 @@ use m11_scan::ErrorFlags;
 use std::alloc::AllocError;
 
 /// The RADIX-50 codes of a word that isn't complete yet.
-#[derive(Clone, Copy, PartialEq, Eq, Debug)]
+#[derive(Clone, Copy, PartialEq, Eq)]
 pub(crate) enum Waiting {
     /// No code.
     Nothing,

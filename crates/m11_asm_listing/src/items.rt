@@ -9,7 +9,7 @@ use m11_base::octal6;
 use m11_obj_print::{Line, add_bytes};
 
 /// What the value of an item is relative to.
-#[derive(Clone, Copy, Debug, PartialEq, Eq)]
+#[derive(Clone, Copy, PartialEq, Eq)]
 pub enum Mark {
     /// Nothing: the value is absolute.
     Unmarked,
@@ -22,7 +22,7 @@ pub enum Mark {
 }
 
 /// A byte or a word that a line emits, or the word that it assigns.
-#[derive(Clone, Copy, Debug, PartialEq, Eq)]
+#[derive(Clone, Copy, PartialEq, Eq)]
 pub enum Item {
     /// A byte and its mark.
     InByte(u8, Mark),

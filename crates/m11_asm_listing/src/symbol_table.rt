@@ -14,7 +14,7 @@ use m11_obj::SectionFlags;
 use m11_obj_print::{Line, add_attributes, add_bytes, ended};
 
 /// The value of a name at the end of the first pass.
-#[derive(Clone, Copy, Debug, PartialEq, Eq)]
+#[derive(Clone, Copy, PartialEq, Eq)]
 pub enum SymbolValue {
     /// No value: the name is undefined, or the value of its last definition is unknown.
     Unknown,
@@ -27,7 +27,7 @@ pub enum SymbolValue {
 }
 
 /// An entry of the table for a name.
-#[derive(Clone, Copy, Debug, PartialEq, Eq)]
+#[derive(Clone, Copy, PartialEq, Eq)]
 pub struct SymbolEntry {
     /// The name, of six characters.
     pub name: Name,
@@ -40,7 +40,7 @@ pub struct SymbolEntry {
 }
 
 /// An entry of the table for a section.
-#[derive(Clone, Copy, Debug, PartialEq, Eq)]
+#[derive(Clone, Copy, PartialEq, Eq)]
 pub struct SectionEntry {
     /// The section's name, of six characters.
     pub name: Name,

@@ -1,7 +1,7 @@
 //! The results of a call of a pass.
 
 /// The point at which a call of a pass stopped, if it didn't fail.
-#[derive(Clone, Copy, PartialEq, Eq, Debug)]
+#[derive(Clone, Copy, PartialEq, Eq)]
 pub enum Turn {
     /// Nothing is left to unfold: feed the next line of the source, unless the source has ended.
     NeedLine,

@@ -4,7 +4,7 @@
 use crate::operand::{Operand, Register, Size};
 
 /// The operations on a source and a destination. All but `Add` and `Sub` have a form for bytes.
-#[derive(Clone, Copy, Debug, PartialEq, Eq)]
+#[derive(Clone, Copy, PartialEq, Eq)]
 pub enum DoubleOp {
     Mov = 0o010000,
     Cmp = 0o020000,
@@ -16,7 +16,7 @@ pub enum DoubleOp {
 }
 
 /// The operations of the extended instruction set on a register and a source.
-#[derive(Clone, Copy, Debug, PartialEq, Eq)]
+#[derive(Clone, Copy, PartialEq, Eq)]
 pub enum ExtendedOp {
     Mul = 0o070000,
     Div = 0o071000,
@@ -25,14 +25,14 @@ pub enum ExtendedOp {
 }
 
 /// The operations on a register and a destination.
-#[derive(Clone, Copy, Debug, PartialEq, Eq)]
+#[derive(Clone, Copy, PartialEq, Eq)]
 pub enum RegisterOp {
     Jsr = 0o004000,
     Xor = 0o074000,
 }
 
 /// The operations on one operand. `Jmp`, `Swab` and `Sxt` have no form for bytes.
-#[derive(Clone, Copy, Debug, PartialEq, Eq)]
+#[derive(Clone, Copy, PartialEq, Eq)]
 pub enum SingleOp {
     Jmp = 0o000100,
     Swab = 0o000300,
@@ -52,7 +52,7 @@ pub enum SingleOp {
 }
 
 /// The operations with a number in the code.
-#[derive(Clone, Copy, Debug, PartialEq, Eq)]
+#[derive(Clone, Copy, PartialEq, Eq)]
 pub enum NumberOp {
     /// A number from 0 to octal 77.
     Mark = 0o006400,
@@ -63,7 +63,7 @@ pub enum NumberOp {
 }
 
 /// The operations whose code has no fields.
-#[derive(Clone, Copy, Debug, PartialEq, Eq)]
+#[derive(Clone, Copy, PartialEq, Eq)]
 pub enum BareOp {
     Halt = 0o000000,
     Wait = 0o000001,
@@ -75,14 +75,14 @@ pub enum BareOp {
 }
 
 /// What an instruction does to the condition codes that it names.
-#[derive(Clone, Copy, Debug, PartialEq, Eq)]
+#[derive(Clone, Copy, PartialEq, Eq)]
 pub enum ConditionOp {
     Clear = 0o000240,
     Set = 0o000260,
 }
 
 /// The branches, which have their offset in the low byte of the code.
-#[derive(Clone, Copy, Debug, PartialEq, Eq)]
+#[derive(Clone, Copy, PartialEq, Eq)]
 pub enum BranchOp {
     Br = 0o000400,
     Bne = 0o001000,
@@ -108,7 +108,7 @@ pub(crate) const SOB: u16 = 0o077000;
 pub(crate) const RTS: u16 = 0o000200;
 
 /// The condition codes that an instruction clears or sets.
-#[derive(Clone, Copy, Debug, PartialEq, Eq)]
+#[derive(Clone, Copy, PartialEq, Eq)]
 pub struct ConditionCodes {
     /// N.
     pub negative: bool,
@@ -142,7 +142,7 @@ impl ConditionCodes {
 }
 
 /// An instruction, without the words after its code.
-#[derive(Clone, Copy, Debug, PartialEq, Eq)]
+#[derive(Clone, Copy, PartialEq, Eq)]
 pub enum Insn {
     /// The source, and the destination.
     Double(DoubleOp, Size, Operand, Operand),
@@ -169,7 +169,7 @@ pub enum Insn {
 }
 
 /// An operation with the form of its operands. A name in a source can mean any of these but `Condition`.
-#[derive(Clone, Copy, Debug, PartialEq, Eq)]
+#[derive(Clone, Copy, PartialEq, Eq)]
 pub enum Op {
     /// A source and a destination.
     Double(DoubleOp, Size),

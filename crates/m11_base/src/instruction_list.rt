@@ -11,7 +11,7 @@ use crate::instruction::{
 use crate::operand::Size;
 
 /// One row of the list: the meaning of all words that have this value under this mask.
-#[derive(Clone, Copy, Debug, PartialEq, Eq)]
+#[derive(Clone, Copy, PartialEq, Eq)]
 pub struct Row {
     /// The name in a source, padded with blanks to six characters; six blanks if there is no name.
     pub name: [u8; 6],

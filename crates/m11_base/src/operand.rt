@@ -4,7 +4,7 @@ ghost use Rattle.std.specs.Prelude.{◌≡◌, ◌<◌, ◌%◌};
 ghost use Rattle.m11_base.specs.Operand.{mode_of, register_of, register_number, operand_of, operand_code};
 
 /// The unit that an instruction works on: a word or a byte.
-#[derive(Clone, Copy, Debug, PartialEq, Eq)]
+#[derive(Clone, Copy, PartialEq, Eq)]
 pub enum Size {
     /// A word of 16 bits.
     Word = 0,
@@ -14,7 +14,7 @@ pub enum Size {
 
 /// How the register of an operand leads to the operand, in the order of the codes 0 to 7. A register steps by 2, but by 1 in modes
 /// 2 and 4 if the operand is a byte and the register is neither `Sp` nor `Pc`.
-#[derive(Clone, Copy, Debug, PartialEq, Eq)]
+#[derive(Clone, Copy, PartialEq, Eq)]
 pub enum Mode {
     /// `R`: the register itself.
     Register,
@@ -35,7 +35,7 @@ pub enum Mode {
 }
 
 /// One of the eight registers, in the order of their numbers.
-#[derive(Clone, Copy, Debug, PartialEq, Eq)]
+#[derive(Clone, Copy, PartialEq, Eq)]
 pub enum Register {
     R0,
     R1,
@@ -50,7 +50,7 @@ pub enum Register {
 }
 
 /// An operand: a mode and its register.
-#[derive(Clone, Copy, Debug, PartialEq, Eq)]
+#[derive(Clone, Copy, PartialEq, Eq)]
 pub struct Operand {
     pub mode: Mode,
     pub register: Register,

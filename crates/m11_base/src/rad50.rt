@@ -95,7 +95,7 @@ impl Rad50 {
 }
 
 /// A name of six characters in RADIX-50: two words, each below octal 175000. Names are ordered by their two words.
-#[derive(Clone, Copy, Debug, PartialEq, Eq, PartialOrd, Ord, Hash)]
+#[derive(Clone, Copy, PartialEq, Eq, PartialOrd, Ord, Hash)]
 pub struct Name {
     first: u16,
     second: u16,

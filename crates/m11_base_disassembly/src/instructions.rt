@@ -15,7 +15,7 @@ use crate::source::{Source, put};
 use m11_base::{Insn, Operand, Register, Row, decode};
 
 /// A line of source, and the number of words that it was made from.
-#[derive(Clone, Debug, Drop)]
+#[derive(Clone, Drop)]
 pub struct Disassembly {
     /// The line of source, without a line feed.
     pub source: Source,

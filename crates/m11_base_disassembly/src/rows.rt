@@ -10,7 +10,7 @@ use crate::map_fault::MapFault;
 use crate::symbols::Symbol;
 
 /// Which lines of a text give symbols, and how.
-#[derive(Clone, Copy, Debug)]
+#[derive(Clone, Copy)]
 pub(crate) enum Form<'a> {
     /// The lines of a link's map up to the line UNDEFINED.
     LinkMap,

@@ -10,7 +10,7 @@ use crate::source::{Source, put};
 use m11_base::Name;
 
 /// A name with its value: a global of a link's map, of a load map or of objects, or a name in a listing.
-#[derive(Clone, Copy, Debug)]
+#[derive(Clone, Copy)]
 pub struct Symbol {
     /// Its name.
     pub name: Name,

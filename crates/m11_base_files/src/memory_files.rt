@@ -9,7 +9,7 @@ use m11_base::{MemoryFeed, MemorySink};
 use std::alloc::Global;
 
 /// A file: its path and its bytes.
-#[derive(Debug, Drop)]
+#[derive(Drop)]
 pub struct MemoryFile {
     /// The path, as written on the command line.
     pub path: String,
@@ -18,7 +18,7 @@ pub struct MemoryFile {
 }
 
 /// A file created by a command.
-#[derive(Debug, Drop)]
+#[derive(Drop)]
 pub struct MadeFile {
     /// The path, as written on the command line.
     pub path: String,

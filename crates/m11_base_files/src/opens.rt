@@ -7,7 +7,7 @@ ghost use Rattle.m11_base_files.specs.Opens.{Files, Creates, CountsRefusal, Find
 use m11_base::{Feed, Seed, Sink};
 
 /// Why a file can't be read or written.
-#[derive(Debug, Drop, Clone, Copy, PartialEq, Eq)]
+#[derive(Drop, Clone, Copy, PartialEq, Eq)]
 pub enum OpenRefusal {
     /// The file could not be opened or created; or it can be read only once, and two passes need it.
     NotOpened,

@@ -10,7 +10,7 @@ use m11_cpu::{SimDone, SimFault};
 use m11_link::{LinkDone, LinkFault};
 
 /// The outcome of a command.
-#[derive(Debug, Drop)]
+#[derive(Drop)]
 pub enum Outcome {
     /// The command line is refused, or asks for help, or memory was refused while it was read.
     Usage(UsageFault),

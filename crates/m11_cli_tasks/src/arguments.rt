@@ -7,7 +7,7 @@ use std::alloc::{AllocError, AllocFailed, Global};
 use std::env::{Env, FillError};
 
 /// Why the arguments couldn't be read.
-#[derive(Debug, Drop, Clone, Copy, PartialEq, Eq)]
+#[derive(Drop, Clone, Copy, PartialEq, Eq)]
 pub enum WordsFault {
     /// Memory was refused.
     NoMemory,

@@ -10,7 +10,7 @@ use m11_base_files::{OpenRefusal, Opens};
 use std::alloc::{AllocFailed, Global};
 
 /// Why a file of a task couldn't be opened or created.
-#[derive(Debug, Drop)]
+#[derive(Drop)]
 pub enum OpenFault<'a> {
     /// The file at this path couldn't be opened or created.
     NotOpened(&'a str),

@@ -14,7 +14,7 @@ use std::alloc::{AllocError, Global};
 use std::convert::AsStr;
 
 /// An assembly, with its paths as given on the command line.
-#[derive(Debug, Drop)]
+#[derive(Drop)]
 pub struct AsmTask<'a> {
     /// The path of the object.
     pub object: &'a str,
@@ -25,7 +25,7 @@ pub struct AsmTask<'a> {
 }
 
 /// A link, with its paths as given on the command line.
-#[derive(Debug, Drop)]
+#[derive(Drop)]
 pub struct LinkTask<'a> {
     /// The path of the tape.
     pub tape: &'a str,
@@ -38,7 +38,7 @@ pub struct LinkTask<'a> {
 }
 
 /// A run of a tape, with its path as given on the command line.
-#[derive(Debug, Drop)]
+#[derive(Drop)]
 pub struct SimTask<'a> {
     /// The path of the tape.
     pub tape: &'a str,
@@ -51,7 +51,7 @@ pub struct SimTask<'a> {
 }
 
 /// The task of a command line: one command, with all its numbers in range.
-#[derive(Debug, Drop)]
+#[derive(Drop)]
 pub enum Task<'a> {
     /// `asm`: to assemble.
     Asm(AsmTask<'a>),

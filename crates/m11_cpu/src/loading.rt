@@ -14,7 +14,7 @@ use m11_cpu_machine::Memory;
 use m11_obj_blocks::{TapePart, TapeReader};
 
 /// Where the program of a tape starts.
-#[derive(Clone, Copy, Debug, PartialEq, Eq)]
+#[derive(Clone, Copy, PartialEq, Eq)]
 pub struct Start {
     /// The transfer address of the tape. The program starts there if it is even; an odd one starts nothing.
     pub address: u16,

@@ -14,7 +14,7 @@ use m11_cpu_machine::Stop;
 use std::alloc::Global;
 
 /// The outcome of a run whose stop was reported. The command's exit status follows from the stop.
-#[derive(Clone, Copy, Debug, PartialEq, Eq)]
+#[derive(Clone, Copy, PartialEq, Eq)]
 pub struct SimDone {
     /// Why the run ended.
     pub stop: Stop,

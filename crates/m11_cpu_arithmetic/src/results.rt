@@ -8,7 +8,7 @@ use crate::sizes::{is_outside, kept, overflows, signed};
 use m11_base::{ConditionCodes, Size};
 
 /// A result and the condition codes that it sets.
-#[derive(Clone, Copy, Debug, PartialEq, Eq)]
+#[derive(Clone, Copy, PartialEq, Eq)]
 pub struct Computed {
     /// A word, or a byte as a number below octal 400.
     pub value: u16,
@@ -17,7 +17,7 @@ pub struct Computed {
 }
 
 /// A result of 32 bits in two words, and the condition codes that it sets.
-#[derive(Clone, Copy, Debug, PartialEq, Eq)]
+#[derive(Clone, Copy, PartialEq, Eq)]
 pub struct Pair {
     /// The upper 16 bits.
     pub high: u16,
@@ -28,7 +28,7 @@ pub struct Pair {
 }
 
 /// The result of a division: a quotient and a remainder, or a refusal.
-#[derive(Clone, Copy, Debug, PartialEq, Eq)]
+#[derive(Clone, Copy, PartialEq, Eq)]
 pub enum Division {
     /// The quotient and the remainder, and the codes that they set.
     Done {

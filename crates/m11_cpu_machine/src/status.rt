@@ -6,7 +6,7 @@ ghost use Rattle.m11_cpu_machine.specs.Status.{psw_of, status_of, status_written
 use m11_base::ConditionCodes;
 
 /// The processor status word, of which this machine has the lower eight bits.
-#[derive(Clone, Copy, Debug, PartialEq, Eq)]
+#[derive(Clone, Copy, PartialEq, Eq)]
 pub struct ProcessorStatus {
     /// The priority, of which only the lower three bits count. No device interrupts, so the priority only shows in the status word.
     pub priority: u8,

@@ -3,7 +3,7 @@
 ghost use Rattle.std.specs.Prelude.{◌≡◌};
 
 /// Why a run of a program ends.
-#[derive(Clone, Copy, Debug, PartialEq, Eq)]
+#[derive(Clone, Copy, PartialEq, Eq)]
 pub enum Stop {
     /// 1: HALT.
     Halt,
@@ -33,7 +33,7 @@ pub enum LastingStop {
 }
 
 /// The result of a step: the machine can go on, or it stops.
-#[derive(Clone, Copy, Debug, PartialEq, Eq)]
+#[derive(Clone, Copy, PartialEq, Eq)]
 pub enum Turn {
     /// The next instruction can begin, perhaps the first one of a trap handler.
     Next,

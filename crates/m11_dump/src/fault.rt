@@ -9,7 +9,7 @@ use m11_obj::{BlockFault, RecordFault, TapeFault};
 use std::alloc::{AllocError, AllocFailed};
 
 /// Why a dump fails.
-#[derive(Clone, Copy, Debug, PartialEq, Eq)]
+#[derive(Clone, Copy, PartialEq, Eq)]
 pub enum DumpFault {
     /// A block of an object or a library is faulty, the file is too long, or reading it failed.
     Block(BlockFault),
@@ -27,7 +27,7 @@ pub enum DumpFault {
 }
 
 /// A fault and its position in the file.
-#[derive(Clone, Copy, Debug, PartialEq, Eq)]
+#[derive(Clone, Copy, PartialEq, Eq)]
 pub struct LocatedFault {
     /// The fault.
     pub fault: DumpFault,

@@ -9,7 +9,7 @@ use m11_base::Feed;
 use m11_obj_blocks::{TapeFault, TapePart, TapeReader};
 
 /// The kind of a file.
-#[derive(Clone, Copy, Debug, PartialEq, Eq)]
+#[derive(Clone, Copy, PartialEq, Eq)]
 pub enum Kind {
     /// An object: a list of modules, perhaps empty.
     Object,

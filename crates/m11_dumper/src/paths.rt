@@ -12,7 +12,7 @@ use std::alloc::Global;
 use std::convert::AsStr;
 
 /// How to show the contents of files.
-#[derive(Clone, Copy, Debug)]
+#[derive(Clone, Copy)]
 pub(crate) struct Look {
     /// How to show the bytes of texts and of a tape's blocks.
     pub(crate) view: View,
@@ -21,7 +21,7 @@ pub(crate) struct Look {
 }
 
 /// What to show of files.
-#[derive(Clone, Copy, Debug)]
+#[derive(Clone, Copy)]
 pub(crate) enum Show {
     /// The contents of each file.
     Contents(Look),

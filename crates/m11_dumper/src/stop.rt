@@ -13,7 +13,7 @@ use m11_obj::BlockFault;
 use std::alloc::AllocError;
 
 /// Why not all files were shown.
-#[derive(Clone, Copy, Debug)]
+#[derive(Clone, Copy)]
 pub(crate) enum Stop<'a> {
     /// The file at this path couldn't be opened.
     NotOpened(&'a str),
@@ -40,7 +40,7 @@ impl From<AllocError> for Stop<'_> {
 }
 
 /// The outcome of a command line: it was refused, or its files were shown as far as that was possible.
-#[derive(Debug, Drop)]
+#[derive(Drop)]
 pub(crate) enum Outcome<'a> {
     /// The command line is refused or asks for help, or memory was refused while it was read.
     Usage(UsageFault),

@@ -31,7 +31,7 @@ use std::alloc::Global;
 use std::marker::Model;
 
 /// The result of a link that is completely written.
-#[derive(Clone, Copy, Debug, PartialEq, Eq)]
+#[derive(Clone, Copy, PartialEq, Eq)]
 pub struct LinkDone {
     /// The number of messages, counted up to 4,294,967,295.
     pub messages: u32,

@@ -4,7 +4,7 @@ use m11_base::Name;
 use m11_obj::SectionFlags;
 
 /// A section of a plan.
-#[derive(Clone, Copy, Debug, PartialEq, Eq)]
+#[derive(Clone, Copy, PartialEq, Eq)]
 pub struct PlannedSection {
     /// Its name.
     pub name: Name,
@@ -17,7 +17,7 @@ pub struct PlannedSection {
 }
 
 /// A defined global.
-#[derive(Clone, Copy, Debug, PartialEq, Eq)]
+#[derive(Clone, Copy, PartialEq, Eq)]
 pub struct PlannedGlobal {
     /// Its name.
     pub name: Name,

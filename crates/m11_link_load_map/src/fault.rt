@@ -3,7 +3,7 @@
 use m11_link_layout::LinkFault;
 
 /// Why objects have no load map, and the object at fault.
-#[derive(Clone, Copy, Debug, PartialEq, Eq)]
+#[derive(Clone, Copy, PartialEq, Eq)]
 pub struct ObjectsFault {
     /// The index of the object at fault, counted from 0. None if all objects were read: the fault is then `TooLarge`, for all of
     /// them together, or `NoMemory`.
@@ -13,7 +13,7 @@ pub struct ObjectsFault {
 }
 
 /// Why a load map couldn't be made or written completely.
-#[derive(Clone, Copy, Debug, PartialEq, Eq)]
+#[derive(Clone, Copy, PartialEq, Eq)]
 pub enum LoadMapFault {
     /// A link of the objects is refused with this fault, or memory was refused.
     Objects(ObjectsFault),

@@ -12,7 +12,7 @@ use m11_base_files::{OpenRefusal, Opens};
 use std::alloc::Global;
 
 /// Why files give no names.
-#[derive(Clone, Copy, Debug)]
+#[derive(Clone, Copy)]
 pub enum NoNames<'a> {
     /// The file at this path couldn't be opened.
     NotOpened(&'a str),

@@ -14,3 +14,8 @@ use std::process::Abort;
 pub(crate) fn same<T: PartialEq + Debug>(rt: &impl Abort, row: &impl Display, got: &T, wanted: &T) {
     assert_eq!(rt; got, wanted, "{row}");
 }
+
+// Like `same`, for values without `Debug`: a failure shows the row alone.
+pub(crate) fn equal<T: PartialEq>(rt: &impl Abort, row: &impl Display, got: &T, wanted: &T) {
+    assert!(rt; got == wanted, "{row}");
+}

@@ -10,7 +10,7 @@ use crate::relocations::Target;
 use m11_base::Name;
 
 /// The commands with a constant and no name.
-#[derive(Clone, Copy, Debug, PartialEq, Eq)]
+#[derive(Clone, Copy, PartialEq, Eq)]
 pub(crate) enum ConstantCommand {
     Internal,
     InternalDisplaced,
@@ -18,7 +18,7 @@ pub(crate) enum ConstantCommand {
 }
 
 /// The commands with a name and no constant.
-#[derive(Clone, Copy, Debug, PartialEq, Eq)]
+#[derive(Clone, Copy, PartialEq, Eq)]
 pub(crate) enum NameCommand {
     Global,
     GlobalDisplaced,
@@ -27,7 +27,7 @@ pub(crate) enum NameCommand {
 }
 
 /// The commands with a name and a constant after it.
-#[derive(Clone, Copy, Debug, PartialEq, Eq)]
+#[derive(Clone, Copy, PartialEq, Eq)]
 pub(crate) enum NameAndConstantCommand {
     GlobalAdditive,
     GlobalAdditiveDisplaced,
@@ -37,7 +37,7 @@ pub(crate) enum NameAndConstantCommand {
 }
 
 /// A command of a relocation directory, by the kind of the fields that follow its displacement.
-#[derive(Clone, Copy, Debug, PartialEq, Eq)]
+#[derive(Clone, Copy, PartialEq, Eq)]
 pub(crate) enum Command {
     ProgramLimits,
     Constant(ConstantCommand),

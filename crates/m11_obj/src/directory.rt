@@ -18,7 +18,7 @@ use std::marker::Model;
 const MOST_ENTRIES: usize = 15;
 
 /// One row of a directory.
-#[derive(Clone, Copy, Debug, PartialEq, Eq)]
+#[derive(Clone, Copy, PartialEq, Eq)]
 pub enum DirectoryRow {
     /// The module's name.
     Module(Name),

@@ -7,7 +7,7 @@ use bitflags::{Flag, Flags, bitflag_items};
 
 /// The attributes of a program section. If a bit is clear, the section has the opposite attribute: CON for `OVERLAID`, RW for
 /// `READ_ONLY`, ABS for `RELOCATABLE`, LCL for `GLOBAL`, I for `DATA`. `SAVED` has no opposite.
-#[derive(Clone, Copy, PartialEq, Eq, Debug)]
+#[derive(Clone, Copy, PartialEq, Eq)]
 pub struct SectionFlags(u8);
 
 bitflag_items! {
@@ -62,7 +62,7 @@ impl SectionFlags {
 
 /// The flags of a global symbol. `DEFINED`: this module defines the symbol; if the bit is clear, the module refers to it. `WEAK`: the
 /// reference is weak. `RELOCATABLE`: the value is relocated with its section.
-#[derive(Clone, Copy, PartialEq, Eq, Debug)]
+#[derive(Clone, Copy, PartialEq, Eq)]
 pub struct SymbolFlags(u8);
 
 bitflag_items! {

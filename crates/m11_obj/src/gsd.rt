@@ -13,7 +13,7 @@ use m11_base::{Name, blank_name};
 use m11_obj_blocks::Block;
 
 /// The kind of an entry, by its type byte.
-#[derive(Clone, Copy, Debug, PartialEq, Eq)]
+#[derive(Clone, Copy, PartialEq, Eq)]
 pub enum GsdKind {
     /// 0: the module's name.
     ModuleName,
@@ -49,7 +49,7 @@ impl GsdKind {
 }
 
 /// One entry: a name, the flags byte, a kind and a value.
-#[derive(Clone, Copy, Debug, PartialEq, Eq)]
+#[derive(Clone, Copy, PartialEq, Eq)]
 pub struct GsdEntry {
     /// The name. For a transfer address it is the name of its section.
     pub name: Name,

@@ -17,7 +17,7 @@ use m11_base::Name;
 
 /// How a linker relocates a constant. A displaced value is relative to the location after its word: the location plus 2 is subtracted.
 /// The numbers of commands are octal.
-#[derive(Clone, Copy, Debug, PartialEq, Eq)]
+#[derive(Clone, Copy, PartialEq, Eq)]
 pub enum RelocationKind {
     /// Not at all: there is no relocation.
     Fixed,
@@ -36,7 +36,7 @@ pub enum RelocationKind {
 }
 
 /// A constant, and how it is relocated.
-#[derive(Clone, Copy, Debug, PartialEq, Eq)]
+#[derive(Clone, Copy, PartialEq, Eq)]
 pub struct StoredConstant {
     /// A word. If the content is a byte, only the low byte is stored.
     pub constant: u16,
@@ -45,7 +45,7 @@ pub struct StoredConstant {
 }
 
 /// What is stored at a location.
-#[derive(Clone, Copy, Debug, PartialEq, Eq)]
+#[derive(Clone, Copy, PartialEq, Eq)]
 pub enum PieceContent {
     /// A byte: the low byte of a constant.
     Byte(StoredConstant),
@@ -56,7 +56,7 @@ pub enum PieceContent {
 }
 
 /// A piece: a byte, a word or a pair of limits at a location of a section.
-#[derive(Clone, Copy, Debug, PartialEq, Eq)]
+#[derive(Clone, Copy, PartialEq, Eq)]
 pub struct Piece {
     /// The name of its section.
     pub section: Name,

@@ -14,7 +14,7 @@ use m11_obj_blocks::Block;
 /// The value that is stored at a relocated location; or, in commands 7 and 10, the location that is selected. The base of a section
 /// is that of this module's contribution to it. A displaced value is relative to the location after its word: the location plus 2 is
 /// subtracted. The numbers are those of the commands, in octal.
-#[derive(Clone, Copy, Debug, PartialEq, Eq)]
+#[derive(Clone, Copy, PartialEq, Eq)]
 pub enum Target {
     /// 1: the base of the text's own section plus a constant.
     Internal(u16),
@@ -93,7 +93,7 @@ impl Target {
 }
 
 /// The relocation of one location in the text before it, or the selection of a location.
-#[derive(Clone, Copy, Debug, PartialEq, Eq)]
+#[derive(Clone, Copy, PartialEq, Eq)]
 pub struct Relocation {
     /// Whether only the low byte of the value is stored, instead of the whole word.
     pub is_byte: bool,

@@ -1,7 +1,7 @@
 //! The parts of a tape, and the state of its reader between two calls.
 
 /// A part of a tape.
-#[derive(Clone, Copy, Debug, PartialEq, Eq)]
+#[derive(Clone, Copy, PartialEq, Eq)]
 pub enum TapePart {
     /// The header of a block. Its `count` bytes of data, 1 to 65,529, come next, one per call; they belong at `address` and the
     /// addresses after it.

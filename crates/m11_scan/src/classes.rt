@@ -5,7 +5,7 @@ ghost use Rattle.std.specs.List.{prefix_len};
 ghost use Rattle.m11_scan.specs.Classes.{bit_of, is_of};
 
 /// A class of characters. Its number is its bit in the table.
-#[derive(Clone, Copy, PartialEq, Eq, Debug)]
+#[derive(Clone, Copy, PartialEq, Eq)]
 pub enum Class {
     /// A blank or a tab.
     Blank = 0o001,

@@ -7,7 +7,7 @@ ghost use Rattle.m11_scan.specs.Conditions.{condition_named};
 use crate::names::{is_same_six, six_characters};
 
 /// A condition of `.IF` or `.IIF`.
-#[derive(Clone, Copy, PartialEq, Eq, Debug)]
+#[derive(Clone, Copy, PartialEq, Eq)]
 pub enum Condition {
     /// EQ: an expression is zero.
     Zero,

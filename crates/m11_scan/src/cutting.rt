@@ -10,7 +10,7 @@ use crate::pieces::first_piece;
 use crate::sort::{Form, Sort};
 
 /// A token of a line.
-#[derive(Clone, Copy, PartialEq, Eq, Debug, Default)]
+#[derive(Clone, Copy, PartialEq, Eq, Default)]
 pub struct Token {
     /// What kind of token it is, such as a name, a number or a mark.
     pub sort: Sort,

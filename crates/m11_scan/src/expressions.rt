@@ -7,7 +7,7 @@ ghost use Rattle.m11_scan.specs.Expressions.{goes_on, role_of, within_if};
 use crate::sort::Sort;
 
 /// The role of a token in an expression.
-#[derive(Clone, Copy, PartialEq, Eq, Debug)]
+#[derive(Clone, Copy, PartialEq, Eq)]
 pub enum Role {
     /// A term: a name, a number, or characters after `'`, `"` or `^R`.
     Term,
@@ -26,7 +26,7 @@ pub enum Role {
 }
 
 /// The state after some of the tokens of an expression.
-#[derive(Clone, Copy, PartialEq, Eq, Debug)]
+#[derive(Clone, Copy, PartialEq, Eq)]
 pub struct Within {
     /// The number of `<` that aren't closed yet.
     pub depth: usize,

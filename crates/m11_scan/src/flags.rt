@@ -9,7 +9,7 @@ use arrayvec::ArrayVec;
 use bitflags::{Flag, Flags, bitflag_items};
 
 /// A set of error flags. In contracts it is a number with a bit for each flag, in alphabetical order from the lowest bit.
-#[derive(Clone, Copy, PartialEq, Eq, Debug)]
+#[derive(Clone, Copy, PartialEq, Eq)]
 pub struct ErrorFlags(u16);
 
 bitflag_items! {

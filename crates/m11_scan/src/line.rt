@@ -12,7 +12,7 @@ pub const LINE_LIMIT: usize = 132;
 const SHORT: usize = 48;
 
 /// The first 132 characters of a line, and whether it has more.
-#[derive(Drop, Debug)]
+#[derive(Drop)]
 pub struct Line {
     // The first `length` bytes are the line's characters. The others have no meaning and needn't be cleared.
     bytes: [u8; LINE_LIMIT],

@@ -8,7 +8,7 @@ use crate::flags::ErrorFlags;
 use crate::radix::Radix;
 
 /// A number as a word, and its error flags.
-#[derive(Clone, Copy, PartialEq, Eq, Debug)]
+#[derive(Clone, Copy, PartialEq, Eq)]
 pub struct Number {
     /// The number modulo 65536.
     pub value: u16,

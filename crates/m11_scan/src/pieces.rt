@@ -8,7 +8,7 @@ use crate::classes::{Class, is_of, run_length};
 use crate::sort::{Form, Sort};
 
 /// A piece of a line: a token, a blank, the comment, or a character that begins no token.
-#[derive(Clone, Copy, PartialEq, Eq, Debug)]
+#[derive(Clone, Copy, PartialEq, Eq)]
 pub struct Piece {
     /// The form: a token of some sort, a blank, a comment or a skipped character.
     pub form: Form,

@@ -2,7 +2,7 @@
 //! "Character set".)
 
 /// The sort of a token.
-#[derive(Clone, Copy, PartialEq, Eq, Debug, Default)]
+#[derive(Clone, Copy, PartialEq, Eq, Default)]
 pub enum Sort {
     /// Letters, digits, `$` and `.`, not beginning with a digit: a symbol, an operator, or the location counter `.`.
     #[default]
@@ -66,7 +66,7 @@ pub enum Sort {
 }
 
 /// The form of a piece of a line.
-#[derive(Clone, Copy, PartialEq, Eq, Debug)]
+#[derive(Clone, Copy, PartialEq, Eq)]
 pub enum Form {
     /// A token.
     Cut(Sort),

@@ -7,7 +7,7 @@ ghost use Rattle.m11_scan.specs.Texts.{bracketed, delimited, separator_length};
 use crate::classes::{Class, run_length};
 
 /// The extent of a text between two delimiters, the second of which may be missing.
-#[derive(Clone, Copy, PartialEq, Eq, Debug)]
+#[derive(Clone, Copy, PartialEq, Eq)]
 pub struct Enclosed {
     /// The number of characters before the second delimiter, or of all characters if it is missing.
     pub length: usize,

@@ -34,7 +34,7 @@ pub(crate) fn term_value<N: Names>(token: &Token, line: &Line, names: &N) -> Val
 }
 
 // The value of the first tokens of a list, and the number of these tokens.
-#[derive(Clone, Copy, PartialEq, Eq, Debug)]
+#[derive(Clone, Copy, PartialEq, Eq)]
 pub struct Part {
     pub(crate) value: Value,
     pub(crate) length: usize,

@@ -18,7 +18,7 @@ use m11_scan::{ErrorFlags, Line, Token, expression_at};
 use std::alloc::AllocError;
 
 /// The number of an expression that must be absolute.
-#[derive(Clone, Copy, PartialEq, Eq, Debug)]
+#[derive(Clone, Copy, PartialEq, Eq)]
 pub struct ExpressionNumber {
     /// The number, whatever its kind.
     pub value: u16,

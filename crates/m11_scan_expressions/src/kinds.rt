@@ -11,7 +11,7 @@ use m11_base::Name;
 use m11_scan::ErrorFlags;
 
 /// What the number of a value is relative to.
-#[derive(Clone, Copy, PartialEq, Eq, Debug)]
+#[derive(Clone, Copy, PartialEq, Eq)]
 pub enum Kind {
     /// Nothing: the number is the value.
     Absolute,

@@ -11,7 +11,7 @@ use m11_base::Name;
 use m11_scan::Radix;
 
 /// A symbol that an expression can contain.
-#[derive(Clone, Copy, PartialEq, Eq, Debug)]
+#[derive(Clone, Copy, PartialEq, Eq)]
 pub enum Symbol {
     /// A name.
     Ordinary(Name),

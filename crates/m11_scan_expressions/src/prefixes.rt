@@ -9,7 +9,7 @@ use crate::values::Value;
 use m11_scan::{ErrorFlags, Radix, Sort};
 
 // A prefix of a term.
-#[derive(Clone, Copy, PartialEq, Eq, Debug)]
+#[derive(Clone, Copy, PartialEq, Eq)]
 pub enum Prefix {
     // `+`
     Plus,

@@ -8,7 +8,7 @@ use crate::kinds::Kind;
 use m11_scan::ErrorFlags;
 
 /// The value of an expression.
-#[derive(Clone, Copy, PartialEq, Eq, Debug)]
+#[derive(Clone, Copy, PartialEq, Eq)]
 pub struct Value {
     /// The number, modulo 65536.
     pub number: u16,

@@ -14,7 +14,7 @@ use m11_scan::{
 };
 
 /// The written form of an actual.
-#[derive(Clone, Copy, PartialEq, Eq, Debug)]
+#[derive(Clone, Copy, PartialEq, Eq)]
 pub enum ActualKind {
     /// Characters without brackets, possibly none.
     Bare,
@@ -25,7 +25,7 @@ pub enum ActualKind {
 }
 
 /// An actual of a line.
-#[derive(Clone, Copy, PartialEq, Eq, Debug)]
+#[derive(Clone, Copy, PartialEq, Eq)]
 pub struct Actual {
     /// The written form.
     pub kind: ActualKind,
@@ -38,7 +38,7 @@ pub struct Actual {
 }
 
 /// The separator between two arguments: blanks and tabs with at most one comma among them, or nothing.
-#[derive(Clone, Copy, PartialEq, Eq, Debug)]
+#[derive(Clone, Copy, PartialEq, Eq)]
 pub struct Separator {
     /// Whether the separator has a comma.
     pub has_comma: bool,

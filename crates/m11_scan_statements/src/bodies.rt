@@ -14,7 +14,7 @@ use crate::spans::Span;
 use m11_scan::{Class, Line, Sort, Token, is_of, next_token, run_length, skipped_between};
 
 /// An assignment to a name.
-#[derive(Clone, Copy, PartialEq, Eq, Debug)]
+#[derive(Clone, Copy, PartialEq, Eq)]
 pub struct Assignment {
     /// The name.
     pub name: Span,
@@ -25,7 +25,7 @@ pub struct Assignment {
 }
 
 /// The body of a line: what follows its labels.
-#[derive(Clone, Copy, PartialEq, Eq, Debug)]
+#[derive(Clone, Copy, PartialEq, Eq)]
 pub enum Body {
     /// Nothing but blanks, tabs, skipped characters and a comment.
     Nothing,

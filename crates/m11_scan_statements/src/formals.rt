@@ -10,7 +10,7 @@ use crate::spans::Span;
 use m11_scan::{Line, Token, next_token, text_between};
 
 /// A formal in a line.
-#[derive(Clone, Copy, PartialEq, Eq, Debug)]
+#[derive(Clone, Copy, PartialEq, Eq)]
 pub struct Formal {
     /// The formal's name.
     pub name: Span,
@@ -19,7 +19,7 @@ pub struct Formal {
 }
 
 /// The next item in a list of formals.
-#[derive(Clone, Copy, PartialEq, Eq, Debug)]
+#[derive(Clone, Copy, PartialEq, Eq)]
 pub enum NextFormal {
     /// The end of the list: no token is left.
     Ends,

@@ -16,7 +16,7 @@ use m11_scan::{
 };
 
 /// The kind of a label.
-#[derive(Clone, Copy, PartialEq, Eq, Debug, Default)]
+#[derive(Clone, Copy, PartialEq, Eq, Default)]
 pub enum LabelKind {
     /// A name with `:`.
     #[default]
@@ -30,7 +30,7 @@ pub enum LabelKind {
 }
 
 /// A label in a line.
-#[derive(Clone, Copy, PartialEq, Eq, Debug, Default)]
+#[derive(Clone, Copy, PartialEq, Eq, Default)]
 pub struct Label {
     /// What it defines: a name, a global name, a local symbol or nothing.
     pub kind: LabelKind,

@@ -10,7 +10,7 @@ use crate::spans::Span;
 use m11_scan::{Line, Sort, Token, next_token};
 
 /// An element of a list of names.
-#[derive(Clone, Copy, PartialEq, Eq, Debug)]
+#[derive(Clone, Copy, PartialEq, Eq)]
 pub struct ListedName {
     /// The name, if the element is a name other than `.`. Any other element, even an empty one, is skipped and flagged A.
     pub name: Option<Span>,

@@ -12,7 +12,7 @@ use m11_scan::{
 };
 
 /// The written form of a part.
-#[derive(Clone, Copy, PartialEq, Eq, Debug, Default)]
+#[derive(Clone, Copy, PartialEq, Eq, Default)]
 pub enum PartKind {
     /// Characters between two delimiters.
     #[default]
@@ -22,7 +22,7 @@ pub enum PartKind {
 }
 
 /// A part of the text in a directive.
-#[derive(Clone, Copy, PartialEq, Eq, Debug, Default)]
+#[derive(Clone, Copy, PartialEq, Eq, Default)]
 pub struct Part {
     /// Its written form.
     pub kind: PartKind,

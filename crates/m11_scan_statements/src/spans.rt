@@ -6,7 +6,7 @@ ghost use Rattle.m11_scan.specs.Cutting.{text_between};
 use m11_scan::{Line, text_between};
 
 /// Consecutive characters of a line.
-#[derive(Clone, Copy, PartialEq, Eq, Debug, Default)]
+#[derive(Clone, Copy, PartialEq, Eq, Default)]
 pub struct Span {
     /// The column of the first character, counted from 0.
     pub start: u8,

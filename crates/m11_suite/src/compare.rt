@@ -16,7 +16,7 @@ pub(crate) struct Found<'a> {
 }
 
 /// The first difference of a command's result from the expected one.
-#[derive(Clone, Copy, Debug, Drop)]
+#[derive(Clone, Copy, Drop)]
 pub(crate) enum Difference<'a> {
     /// The status found.
     Status(u8),

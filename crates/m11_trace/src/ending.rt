@@ -3,7 +3,7 @@
 use m11_cpu::Stop;
 
 /// How a traced run ends.
-#[derive(Clone, Copy, Debug, PartialEq, Eq)]
+#[derive(Clone, Copy, PartialEq, Eq)]
 pub enum Ending {
     /// At a stop that also ends an untraced run, such as HALT or the limit.
     Stopped(Stop),

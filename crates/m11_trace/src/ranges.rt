@@ -10,7 +10,7 @@ use m11_base::Sink;
 use m11_cpu::{Memory, SimFault};
 
 /// A range of memory, between two even addresses, both included. It is empty if `last` is below `first`.
-#[derive(Clone, Copy, Debug, PartialEq, Eq)]
+#[derive(Clone, Copy, PartialEq, Eq)]
 pub struct Range {
     /// The address of the first word.
     pub first: u16,

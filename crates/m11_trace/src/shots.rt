@@ -7,7 +7,7 @@ use m11_cpu::{Machine, Memory};
 
 /// The word at the program counter and the two after it, since an instruction has at most three. Each is None if it lies past the end
 /// of memory, and all are None if the program counter is odd.
-#[derive(Clone, Copy, Debug, Default)]
+#[derive(Clone, Copy, Default)]
 pub struct InstructionWords {
     /// The word at the program counter.
     pub first: Option<u16>,
@@ -18,7 +18,7 @@ pub struct InstructionWords {
 }
 
 /// The registers and the processor status word of a machine.
-#[derive(Clone, Copy, Debug, Default)]
+#[derive(Clone, Copy, Default)]
 pub struct View {
     /// R0 to R5, SP and PC.
     pub registers: [u16; 8],
@@ -27,7 +27,7 @@ pub struct View {
 }
 
 /// What is recorded about a step.
-#[derive(Clone, Copy, Debug, Default)]
+#[derive(Clone, Copy, Default)]
 pub struct Shot {
     /// The words at the program counter before the step.
     pub fetched: InstructionWords,

@@ -8,7 +8,7 @@ use crate::changes::word_or_none;
 use m11_cpu::Memory;
 
 /// An address at which to stop, before the instruction there.
-#[derive(Clone, Copy, Debug, PartialEq, Eq)]
+#[derive(Clone, Copy, PartialEq, Eq)]
 pub struct Breakpoint {
     /// The address.
     pub address: u16,
@@ -17,7 +17,7 @@ pub struct Breakpoint {
 }
 
 /// Where a traced run stops, though an untraced run would go on.
-#[derive(Debug, Drop)]
+#[derive(Drop)]
 pub struct Stops {
     /// The addresses at which it stops, each with its count.
     pub breakpoints: Vec<Breakpoint>,

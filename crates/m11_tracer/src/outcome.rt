@@ -10,7 +10,7 @@ use m11_cpu::SimFault;
 use m11_trace::Ending;
 
 /// The outcome of a command line.
-#[derive(Debug, Drop)]
+#[derive(Drop)]
 pub enum Outcome {
     /// The command line was refused or asked for help, or memory was refused while it was read.
     Usage(UsageFault),

@@ -18,7 +18,7 @@ use std::alloc::Global;
 use std::convert::AsStr;
 
 /// What a traced run is to do.
-#[derive(Debug, Drop)]
+#[derive(Drop)]
 pub struct TraceTask<'a> {
     /// The run itself, as for `m11 sim`.
     pub sim: SimTask<'a>,

@@ -3,7 +3,7 @@
 use m11_scan_expressions::Remarks;
 
 /// The point at which a call of `next` stopped, if it didn't fail.
-#[derive(Clone, Copy, PartialEq, Eq, Debug)]
+#[derive(Clone, Copy, PartialEq, Eq)]
 pub enum Step {
     /// Nothing is left to unfold: feed the next line of the source, unless the source has ended.
     NeedLine,

@@ -11,7 +11,7 @@ use std::marker::Model;
 pub const CONDITION_LIMIT: usize = 32;
 
 /// An open condition.
-#[derive(Clone, Copy, Default, PartialEq, Eq, Debug)]
+#[derive(Clone, Copy, Default, PartialEq, Eq)]
 pub struct OpenCondition {
     /// Whether the condition is true.
     pub holds: bool,
@@ -20,7 +20,7 @@ pub struct OpenCondition {
 }
 
 /// A part of a condition's lines.
-#[derive(Clone, Copy, PartialEq, Eq, Debug)]
+#[derive(Clone, Copy, PartialEq, Eq)]
 pub enum Part {
     /// After `.IFF`: live if the condition is false.
     False,
@@ -32,7 +32,7 @@ pub enum Part {
 
 /// The open conditions of one expansion, or of the source outside all expansions; the number of `.IF`s open among skipped lines; and
 /// whether a condition beyond the limit is being skipped.
-#[derive(Drop, Debug)]
+#[derive(Drop)]
 pub struct Conditions {
     // The innermost comes last.
     entered: ArrayVec<OpenCondition, CONDITION_LIMIT>,

@@ -19,7 +19,7 @@ use std::rc::Rc;
 pub const EXPANSION_LIMIT: usize = 16;
 
 /// The item removed from the front of what is left to unfold.
-#[derive(Drop, Debug)]
+#[derive(Drop)]
 pub enum LineOrEnd {
     /// A line. The value says whether it belongs to an expansion.
     Line(bool),

@@ -3,7 +3,7 @@
 use crate::conditions::Conditions;
 
 /// The end of an expansion, and the state to return to.
-#[derive(Drop, Debug)]
+#[derive(Drop)]
 pub struct Mark {
     /// The number of actuals of a macro call; `None` for a repeat.
     pub arguments: Option<u16>,

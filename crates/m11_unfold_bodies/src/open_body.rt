@@ -9,7 +9,7 @@ use std::alloc::{AllocError, Global};
 use std::marker::Model;
 
 /// The effect of a line on the bodies of macros and repeats.
-#[derive(Clone, Copy, PartialEq, Eq, Debug)]
+#[derive(Clone, Copy, PartialEq, Eq)]
 pub enum Nesting {
     /// The line opens a body.
     Opens,
@@ -20,7 +20,7 @@ pub enum Nesting {
 }
 
 /// The lines of a body so far, and the number of bodies open inside it.
-#[derive(Drop, Debug)]
+#[derive(Drop)]
 pub struct OpenBody {
     body: Texts,
     depth: usize,

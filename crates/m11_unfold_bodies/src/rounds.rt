@@ -9,7 +9,7 @@ use std::collections::VecDeque;
 use std::marker::Model;
 
 /// The remaining rounds of an expansion, including the current one.
-#[derive(Drop, Debug)]
+#[derive(Drop)]
 pub struct Rounds {
     // The number of rounds without actuals, such as those of a `.REPT`.
     plain: u16,

@@ -7,7 +7,7 @@ use m11_base::Name;
 use std::marker::Model;
 
 /// A body with its formals. The body of `.REPT` has none, that of `.IRP` or `.IRPC` at most one.
-#[derive(Drop, Debug)]
+#[derive(Drop)]
 pub struct Template {
     pub(crate) formals: Vec<Name>,
     pub(crate) body: Texts,

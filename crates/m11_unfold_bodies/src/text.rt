@@ -6,7 +6,7 @@ use std::alloc::{AllocError, Global};
 use std::marker::Model;
 
 /// A text on the heap.
-#[derive(Drop, Debug)]
+#[derive(Drop)]
 pub struct Text {
     bytes: Vec<u8>,
 }
@@ -39,7 +39,7 @@ impl Text {
 }
 
 /// Texts on the heap, in order: the lines of a body, or the actuals of one round of an expansion.
-#[derive(Drop, Debug)]
+#[derive(Drop)]
 pub struct Texts {
     alloc: Global,
     texts: Vec<Text>,

@@ -22,7 +22,7 @@ use m11_scan_statements::{Actual, next_actual, separator_at};
 use std::alloc::AllocError;
 
 /// The result of a condition.
-#[derive(Clone, Copy, PartialEq, Eq, Debug)]
+#[derive(Clone, Copy, PartialEq, Eq)]
 pub struct Verdict {
     /// Whether the condition is true.
     pub holds: bool,
@@ -31,7 +31,7 @@ pub struct Verdict {
 }
 
 // The result of a condition, with its flags.
-#[derive(Clone, Copy, PartialEq, Eq, Debug)]
+#[derive(Clone, Copy, PartialEq, Eq)]
 pub struct Finding {
     pub(crate) holds: bool,
     pub(crate) end: u8,

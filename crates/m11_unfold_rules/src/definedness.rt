@@ -14,7 +14,7 @@ use m11_scan_expressions::{Names, Remarks, Symbol, Value, next_symbol};
 use std::alloc::AllocError;
 
 // The operator between two names.
-#[derive(Clone, Copy, PartialEq, Eq, Debug)]
+#[derive(Clone, Copy, PartialEq, Eq)]
 pub enum Joint {
     // `&`
     And,
@@ -23,21 +23,21 @@ pub enum Joint {
 }
 
 // The result of the names so far, and the operator before the next one.
-#[derive(Clone, Copy, PartialEq, Eq, Debug)]
+#[derive(Clone, Copy, PartialEq, Eq)]
 pub struct SoFar {
     pub(crate) holds: bool,
     pub(crate) joint: Joint,
 }
 
 // The operator between two names, and the column after it.
-#[derive(Clone, Copy, PartialEq, Eq, Debug)]
+#[derive(Clone, Copy, PartialEq, Eq)]
 pub struct JointAt {
     pub(crate) joint: Joint,
     pub(crate) end: u8,
 }
 
 // The result of a list of names.
-#[derive(Clone, Copy, PartialEq, Eq, Debug)]
+#[derive(Clone, Copy, PartialEq, Eq)]
 pub(crate) struct NamesVerdict {
     // The result; None if one of the names is bad or missing.
     pub verdict: Option<bool>,

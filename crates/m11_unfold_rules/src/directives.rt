@@ -10,7 +10,7 @@ use m11_scan::{Line, is_same_six, six_characters};
 use m11_scan_statements::{Body, Span, statement};
 
 /// A directive for conditions, repeats or macros, or `.END`.
-#[derive(Clone, Copy, PartialEq, Eq, Debug)]
+#[derive(Clone, Copy, PartialEq, Eq)]
 pub enum Directive {
     /// `.IF`
     If,

@@ -15,7 +15,7 @@ use m11_scan_expressions::{Names, Remarks, left_over, skip_flags};
 use std::alloc::AllocError;
 
 /// The result of `.IIF`.
-#[derive(Clone, Copy, PartialEq, Eq, Debug)]
+#[derive(Clone, Copy, PartialEq, Eq)]
 pub struct Immediate {
     /// Whether the condition is true. If not, the statement is ignored.
     pub holds: bool,

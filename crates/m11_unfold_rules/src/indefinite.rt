@@ -27,7 +27,7 @@ pub struct Rounds {
 }
 
 // The formal of an `.IRP` or `.IRPC`, and the argument after it, from which its actuals are read.
-#[derive(Clone, Copy, PartialEq, Eq, Debug)]
+#[derive(Clone, Copy, PartialEq, Eq)]
 pub struct RepeatHeader {
     pub(crate) formal: Name,
     pub(crate) list: Actual,

@@ -16,7 +16,7 @@ use m11_scan_statements::{Formal, NextFormal, next_formal, separator_at};
 use std::alloc::{AllocError, Global};
 
 /// A formal of a macro.
-#[derive(Clone, Copy, PartialEq, Eq, Debug)]
+#[derive(Clone, Copy, PartialEq, Eq)]
 pub struct MacroFormal {
     /// The formal's name.
     pub name: Name,
@@ -59,7 +59,7 @@ pub fn header_at(
 }
 
 /// A name in a line, and the column after it.
-#[derive(Clone, Copy, PartialEq, Eq, Debug)]
+#[derive(Clone, Copy, PartialEq, Eq)]
 pub struct NameAt {
     /// The name.
     pub name: Name,
@@ -139,7 +139,7 @@ fn formals_within(
 }
 
 // A formal, its flags, and the column after it.
-#[derive(Clone, Copy, PartialEq, Eq, Debug)]
+#[derive(Clone, Copy, PartialEq, Eq)]
 pub struct FormalAt {
     pub(crate) formal: MacroFormal,
     pub(crate) flags: ErrorFlags,
@@ -147,7 +147,7 @@ pub struct FormalAt {
 }
 
 // The next item in a list of formals.
-#[derive(Clone, Copy, PartialEq, Eq, Debug)]
+#[derive(Clone, Copy, PartialEq, Eq)]
 pub enum FormalOrEnd {
     // The end of the list, with the flags of the rest of the line.
     Last(ErrorFlags),

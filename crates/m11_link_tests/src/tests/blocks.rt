@@ -1,6 +1,6 @@
 //! Blocks of objects and of tapes. (RT-11 Volume and File Formats Manual, "Object file format" and "Absolute binary file format".)
 
-use super::same;
+use super::{equal, same};
 use m11_base::{Feed, FuseFeed, MemoryFeed};
 use m11_obj::{
     Block, BlockFault, BlockReader, TapeFault, TapeReader, block_bytes, tape_block, tape_transfer,
@@ -67,7 +67,7 @@ fn the_byte_past_the_limit_is_too_much(rt: HostRuntime) -> Result<(), Fail> {
         let mut tape = FuseFeed::new(MemoryFeed::new(&zeros), calls);
         let mut reader = TapeReader::new();
         let part = reader.next(&mut tape);
-        same(&rt, &calls, &part, &Err(of_tape));
+        equal(&rt, &calls, &part, &Err(of_tape));
     }
     Ok(())
 }

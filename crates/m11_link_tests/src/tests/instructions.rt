@@ -1,6 +1,6 @@
 //! Words and their instructions, names and their operations. (PDP-11/40 Processor Handbook, "Instruction set".)
 
-use super::same;
+use super::{equal, same};
 use m11_base::{
     BranchOp, ConditionCodes, ConditionOp, DoubleOp, Insn, Op, Row, Size, decode, decode_by_list,
     encode, mnemonic, other_names, rows,
@@ -38,14 +38,14 @@ fn check_rows(rt: &impl Abort, rows: &[Row]) {
     for row in rows {
         let name = row.name.trim_ascii_end();
         if !name.is_empty() {
-            same(rt, &"a row", &mnemonic(name), &Some(row.operation));
+            equal(rt, &"a row", &mnemonic(name), &Some(row.operation));
         }
     }
 }
 
 fn check_names(rt: &impl Abort, names: &[(&str, Option<Op>)]) {
     for (text, operation) in names {
-        same(rt, text, &mnemonic(text.as_bytes()), operation);
+        equal(rt, text, &mnemonic(text.as_bytes()), operation);
     }
 }
 
@@ -59,7 +59,7 @@ fn words_and_names_stand_for_their_instructions(rt: HostRuntime) {
         }
         // the tables decode a word as the list does, and its instruction is encoded as the same word
         let again = (encode(&instruction), decode_by_list(word));
-        same(&rt, &word, &again, &(word, instruction));
+        equal(&rt, &word, &again, &(word, instruction));
         same(&rt, &word, &instruction.fits(), &true);
     }
     // the list leaves 6,609 words reserved; the other 58,927 are instructions

@@ -1,6 +1,6 @@
 //! Names in RADIX-50. (MACRO-11 Language Reference Manual, appendix on the RADIX-50 character set.)
 
-use super::same;
+use super::{equal, same};
 use m11_base::{Name, Rad50};
 use std::test::Fail;
 
@@ -32,14 +32,14 @@ fn words_and_names_of_the_manual_pack_and_unpack(rt: HostRuntime) -> Result<(), 
         let name = Name::pack(&characters).ok_or("has codes")?;
         let read = (name.words(), name.characters());
         same(&rt, &"a name", &read, &(words, characters));
-        same(
+        equal(
             &rt,
             &"its words",
             &Name::from_words(words.0, words.1),
             &Some(name),
         );
     }
-    same(&rt, &"no name", &Name::from_words(0, 0o175000), &None);
+    equal(&rt, &"no name", &Name::from_words(0, 0o175000), &None);
     let is_before = Name::pack(b". ABS.") < Name::pack(b".MAIN.");
     same(&rt, &"the order", &is_before, &true);
     Ok(())

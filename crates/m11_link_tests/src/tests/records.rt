@@ -1,6 +1,6 @@
 //! Records and their relocations, written and read. (RT-11 Volume and File Formats Manual, "Object file format".)
 
-use super::same;
+use super::{equal, same};
 use m11_base::Name;
 use m11_obj::{Block, GsdEntry, GsdKind, Record, Relocation, Target, read_record, record_bytes};
 use std::process::Abort;
@@ -96,8 +96,8 @@ fn has_relocations(rt: &impl Abort, record: &Record<'_>, wanted: &[Relocation]) 
     let mut walk = record.each_relocation();
     for index in 0..wanted.len() + 2 {
         let relocation = wanted.get(index).copied();
-        same(rt, &index, &walk.next(), &relocation);
-        same(rt, &index, &record.relocation(index), &relocation);
+        equal(rt, &index, &walk.next(), &relocation);
+        equal(rt, &index, &record.relocation(index), &relocation);
     }
     same(
         rt,

@@ -1,6 +1,6 @@
 //! Tokens of lines, with their columns. (MACRO-11 Language Reference Manual, "Symbols and expressions".)
 
-use super::same;
+use super::{equal, same};
 use m11_scan::{Line, Sort, next_token};
 
 // A line, a column, and the line's tokens at or after the column: the sort, the first column and the characters of each.
@@ -60,7 +60,7 @@ fn tokens_are_the_longest_that_fit(rt: HostRuntime) {
         for (sort, start, text) in row.tokens {
             match next_token(&line, column) {
                 Some(token) => {
-                    same(&rt, &row.line, &(token.sort, token.start), &(*sort, *start));
+                    equal(&rt, &row.line, &(token.sort, token.start), &(*sort, *start));
                     same(&rt, &row.line, &token.text(&line), &text.as_bytes());
                     let end = usize::from(*start).wrapping_add(text.len());
                     same(&rt, &row.line, &usize::from(token.end), &end);
@@ -69,6 +69,6 @@ fn tokens_are_the_longest_that_fit(rt: HostRuntime) {
                 None => assert!(&rt; false, "{}: too few tokens", row.line),
             }
         }
-        same(&rt, &row.line, &next_token(&line, column), &None);
+        equal(&rt, &row.line, &next_token(&line, column), &None);
     }
 }

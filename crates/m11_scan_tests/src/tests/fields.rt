@@ -2,8 +2,8 @@
 //! "Source program format" and "Addressing modes".)
 
 use super::known::Known;
-use super::same;
 use super::statements::label_of;
+use super::{equal, same};
 use m11_asm_operands::Fields;
 use m11_asm_rules::{Field, Form};
 use m11_base::{DoubleOp, Mode, Op, Size};
@@ -26,13 +26,13 @@ fn mode_of(field: &Field<Expr>) -> Option<(Mode, u8)> {
 
 // Checks that the fields are `(R1)+` and `@-(R2)`, end at column 20 and have no flags, and that no character after them is skipped.
 fn are_both(rt: &impl Abort, line: &Line, fields: &Fields) {
-    same(
+    equal(
         rt,
         &LINE,
         &mode_of(&fields.first),
         &Some((Mode::Autoincrement, 9)),
     );
-    same(
+    equal(
         rt,
         &LINE,
         &mode_of(&fields.second),
@@ -50,11 +50,11 @@ fn labels_operator_and_operands_stand_in_order(rt: HostRuntime) {
     let labels = labels_of(&line);
     same(&rt, &LINE, &labels.len(), &1);
     for label in labels.iter() {
-        same(&rt, &LINE, &label_of(label), &(LabelKind::Global, 0, 1));
+        equal(&rt, &LINE, &label_of(label), &(LabelKind::Global, 0, 1));
     }
     let said = statement(&line);
     same(&rt, &LINE, &said.label_flags.text().len(), &0);
-    same(
+    equal(
         &rt,
         &LINE,
         &said.body,

@@ -1,6 +1,6 @@
 //! Lines, sets of flags and names.
 
-use super::same;
+use super::{equal, same};
 use bitflags::Flags;
 use m11_scan::{ErrorFlags, Line, expression_at, read_name};
 
@@ -38,6 +38,6 @@ fn flags_stand_in_the_order_of_the_alphabet(rt: HostRuntime) {
 
 #[test]
 fn blanks_after_a_name_count_for_nothing(rt: HostRuntime) {
-    same(&rt, &"blanks", &read_name(b"$.1"), &read_name(b"$.1  "));
-    same(&rt, &"no name", &read_name(b"A?"), &None);
+    equal(&rt, &"blanks", &read_name(b"$.1"), &read_name(b"$.1  "));
+    equal(&rt, &"no name", &read_name(b"A?"), &None);
 }

@@ -1,11 +1,11 @@
 //! The parts of lines: labels, assignments, operators and words. (MACRO-11 Language Reference Manual, "Source program format".)
 
-use super::same;
+use super::{equal, same};
 use m11_scan::Line;
 use m11_scan_statements::{Body, Label, LabelKind, labels_of, statement};
 
 // The form of what follows the labels.
-#[derive(Clone, Copy, PartialEq, Eq, Debug)]
+#[derive(Clone, Copy, PartialEq, Eq)]
 enum Shape {
     Nothing,
     Assigns,
@@ -123,9 +123,9 @@ fn lines_say_labels_and_what_stands_after_them(rt: HostRuntime) {
         let labels = labels_of(&line);
         same(&rt, &row.line, &labels.len(), &row.labels.len());
         for (label, wanted) in labels.iter().zip(row.labels) {
-            same(&rt, &row.line, &label_of(label), wanted);
+            equal(&rt, &row.line, &label_of(label), wanted);
         }
-        same(&rt, &row.line, &shape_of(found.body), &row.body);
+        equal(&rt, &row.line, &shape_of(found.body), &row.body);
         let flags = found.label_flags.text();
         same(&rt, &row.line, &flags.as_slice(), &row.flags.as_bytes());
     }

@@ -11,7 +11,7 @@ use std::process::Abort;
 use std::test::Fail;
 
 // A device of an assembly: its source in one of the passes, or one of its outputs.
-#[derive(Clone, Copy, Debug, PartialEq, Eq)]
+#[derive(Debug, Clone, Copy, PartialEq, Eq)]
 enum Device {
     First,
     Second,

@@ -10,7 +10,7 @@ use std::process::Abort;
 use std::test::Fail;
 
 // A feed of one of the two passes, or an output.
-#[derive(Clone, Copy, Debug, PartialEq, Eq)]
+#[derive(Debug, Clone, Copy, PartialEq, Eq)]
 enum Device {
     // A feed by its index: two of the first pass, and then two of the second.
     Feed(usize),
