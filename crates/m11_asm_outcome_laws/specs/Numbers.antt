@@ -1,6 +1,7 @@
 -- The numbers of live lines in the listing and the messages, from the unfolding of the source alone. Lines of a called macro have the
--- number of the call, and those of a repeat the number of its `.ENDR`. (MACRO-11 Language Reference Manual, "Macro directives",
--- "Conditional assembly directives" and "Listing control directives". That expanded lines have these numbers is this project's own choice.)
+-- number of the call, and those of a repeat the number of the line that closes its body. (MACRO-11 Language Reference Manual, "Macro
+-- directives", "Conditional assembly directives" and "Listing control directives". That expanded lines have these numbers is this
+-- project's own choice.)
 use Rattle.std.specs.Prelude.{◌≡◌, ◌≤◌, ℕ, List, [], ◌∷◌, ◌++◌, take}
 use Rattle.m11_scan.specs.Line.{SourceLine}
 use Rattle.m11_asm_passes.specs.Lines.{NumberedLine, givens}

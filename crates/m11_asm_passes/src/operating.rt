@@ -87,8 +87,8 @@ pub(crate) fn count_line(
     }
 }
 
-// Applies the action of a line, and returns the item that a listing shows of an assignment, if the action is one and the assigned value is
-// known. Errors: `TooManySymbols` or `TooManySections`; `NoMemory`.
+// Applies the action of a line, and returns the item, if any, that a listing shows for the value that the action assigns. Errors:
+// `TooManySymbols` or `TooManySections`; `NoMemory`.
 #[inline(always)]
 pub(crate) fn change_line(
     pass: &mut Pass,

@@ -161,8 +161,8 @@ impl State {
         Ok(())
     }
 
-    // Counts the symbols that a line uses after its labels, if used names are counted; applies the action of the line; and returns the item
-    // that a listing shows of its assignment, if it has one. Error: as for `place`.
+    // Counts the symbols that a line uses after its labels, if used names are counted; applies the action of the line; and returns the
+    // item, if any, that a listing shows for the value that the action assigns. Error: as for `place`.
     // speed: inline in both callers, since a call, with the moves of its result, took a sixth of the function's instructions.
     #[inline(always)]
     fn apply(

@@ -1,6 +1,7 @@
 -- `.GLOBL`, `.WEAK`, `.TITLE`, `.IDENT` and `.END`. (MACRO-11 Language Reference Manual, ".GLOBL directive", ".WEAK directive", ".TITLE
--- directive", ".IDENT directive" and ".END directive". This project's own: a bad element of a list is skipped, and a bad title or
--- identification is ignored.)
+-- directive", ".IDENT directive" and ".END directive". This project's own: a bad element of a list is skipped; a `.TITLE` without a valid
+-- name and an `.IDENT` without a text do nothing; an `.IDENT` text that isn't closed, or has a character outside RADIX-50, is flagged A
+-- but still used.)
 use Rattle.std.specs.Prelude.{ℕ, ◌+◌, ◌-◌, ◌*◌, Bool, true, if◌then◌else◌, List, [], ◌∷◌, take, Option, Some, None}
 use Rattle.std.specs.Int.RustNames.{bit_and, bit_or}
 use Rattle.std.specs.Option.{option_map_or}

@@ -66,8 +66,8 @@ to_messages bytes = writes.to_output Messages bytes
 
 -- ---- the flush
 
--- the outputs that may hold bytes back, in the order in which they are flushed at the end; not the messages, which are for a person
--- who reads along
+-- the outputs that may hold bytes back, in the order in which they are flushed at the end; not the messages, which a person watching
+-- the run reads as they appear
 abbrev pub files : List Output
 files = Product ∷ Report ∷ []
 

@@ -8,14 +8,14 @@ ghost use Rattle.m11_base_writes.specs.Writes.{Between, In, Stop, Writes};
 use crate::writes::{flush_or_fail, put_or_fail};
 use m11_base::Sink;
 
-/// The outputs of a program: its product, a report on it if one is asked for, and messages to a person who reads along.
+/// The outputs of a program: its product, a report on it if one is asked for, and messages for a person watching the run.
 #[derive(Clone, Copy, Debug, PartialEq, Eq)]
 pub enum Output {
     /// What the program makes.
     Product,
     /// The report on the product, if one is asked for.
     Report,
-    /// Messages to a person who reads along.
+    /// Messages for a person watching the run.
     Messages,
 }
 

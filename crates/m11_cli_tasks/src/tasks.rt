@@ -81,8 +81,8 @@ const LAST_ADDRESS: u16 = 0o157776;
 
 /// Reads a command line, whose first word is the program's name.
 ///
-/// Errors, in this order: `Help`, if help is asked for; `Words`, if the parser refuses the command line; `BadOctal`, `OddAddress` and
-/// `BadAddress`, for a bad bottom or start. `NoMemory`, if memory is refused.
+/// Errors, in this order: `Help` or `Words`, if a word asks for help or the parser refuses the words, whichever it meets first;
+/// `BadOctal`, `OddAddress` and `BadAddress`, for a bad bottom or start. `NoMemory`, if memory is refused.
 pub fn plan<'a, S: AsStr>(alloc: Global, words: &'a [S]) -> Result<Task<'a>, UsageFault>
     ensures planned { Plans (map S.text words.entry.now) result }
     ensures doable { IfOk result IsDoable }

@@ -34,8 +34,8 @@ pub record HoldsImage (image : Image) (before after : Machine) (start : ℕ) : T
   pub others : after ≡ record before { memory = after.memory }
   pub start_is : start ≡ transfer_address image
 
--- loading a tape of an image has this outcome; since the bytes are a tape, no fault in its blocks can occur: the load fails only for
--- a byte outside memory, for the length of the tape, or because the device failed
+-- loading a tape of an image has this outcome; since the bytes are a tape, no fault in its blocks can occur: the load fails only because
+-- a byte lies outside memory, the tape is too long, or the device failed
 abbrev pub LoadYields : Image → Bytes → ℕ → ℕ → Machine → Machine → Result ℕ LoadFault → Type 0
 LoadYields image tape faults faults' before after (Ok start) = HoldsImage image before after start
 LoadYields image tape faults faults' before after (Err OutsideMemory) = LiesPast (memory_size before) image

@@ -46,10 +46,11 @@ pub fn bad_addresses_trap()
 {}
 
 /// An instruction traps through 4 only because of its accesses. First the word at the program counter is read, which traps through 4 if
-/// and only if nothing is there. After that the instruction traps through 4 if and only if one of its accesses finds nothing. The handbook
-/// gives these accesses: to the index words and pointers of the instruction's operands, to the operands themselves, and to the words that
-/// the instruction pushes and pops. The address of each access is formed after everything that the instruction does before that access.
-/// (PDP-11/40 Processor Handbook, "Addressing modes", "Instruction set", "Processor traps".)
+/// and only if nothing is there. After that the instruction traps through 4 if and only if one of its accesses finds nothing. As in the
+/// handbook, these accesses are to the index words and pointers of the instruction's operands, to the operands themselves other than the
+/// destinations of JMP and JSR, and to the words that the instruction pushes and pops. The address of each access is formed after
+/// everything that the instruction does before that access. (PDP-11/40 Processor Handbook, "Addressing modes", "Instruction set",
+/// "Processor traps".)
 pub fn accesses_alone_trap()
     ensures code { (m : Machine) → CodeTraps m }
     ensures instruction { (code : Insn) (m : Machine) → InstructionTraps code m }

@@ -108,7 +108,7 @@ fn show<'a, F: Opens, O: Sink>(
     }
 }
 
-// Reports why not all files were shown, if they weren't. Nothing is reported if memory is refused for the line.
+// Reports why showing stopped early, if it did. Nothing is reported if memory is refused for the line.
 fn say<E: Sink>(alloc: Global, shown: &Result<(), Stop<'_>>, err: &mut E)
     ensures { Says shown.now (output_of E.Sink err.old) (output_of E.Sink err.new) }
 {

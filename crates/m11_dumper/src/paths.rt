@@ -44,8 +44,8 @@ pub(crate) struct Request<'a> {
 
 /// Reads a command line, whose first word is the program's name.
 ///
-/// Errors, in this order: `Help`, if help is asked for; `Words`, if the parser refuses the words; `BadOctal`, `OddAddress` and
-/// `BadAddress`, for a bad bottom, even if nothing uses it. `NoMemory`, if memory is refused.
+/// Errors, in this order: `Help` or `Words`, if a word asks for help or the parser refuses the words, whichever it meets first;
+/// `BadOctal`, `OddAddress` and `BadAddress`, for a bad bottom, even if nothing uses it. `NoMemory`, if memory is refused.
 pub(crate) fn plan<'a, S: AsStr>(alloc: Global, words: &'a [S]) -> Result<Request<'a>, UsageFault>
     ensures { Plans (map S.text words.entry.now) result }
 {

@@ -18,7 +18,7 @@ use m11_scan::{
 pub enum ActualKind {
     /// Characters without brackets, possibly none.
     Bare,
-    /// Characters in `<` and `>`.
+    /// Characters between `<` and `>`.
     Bracketed,
     /// `\` and an expression. The digits of the expression's value, in the current radix, are the actual.
     Digits,

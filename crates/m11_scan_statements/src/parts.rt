@@ -17,7 +17,7 @@ pub enum PartKind {
     /// Characters between two delimiters.
     #[default]
     Text,
-    /// An expression in `<` and `>`.
+    /// An expression between `<` and `>`.
     Expression,
 }
 

@@ -1,5 +1,6 @@
-//! Traced runs of tapes, with a line for each step, beginning with a chosen step: its instruction as a line of source, and what it
-//! changed. The machine, the console and the stop are those of an untraced run.
+//! Traced runs of tapes. From a chosen step on, each step has a line: its instruction as a line of source, and what it changed. The
+//! machine, the console and the stop are those of an untraced run, unless a breakpoint or a change of the watched word stops the run
+//! first.
 #![tactic(auto)]
 
 // What a trace line shows about a step, and the memory words that the step changed.

@@ -39,10 +39,10 @@ const MOST_STEPS: u32 = 1_000_000_000;
 
 /// Reads a command line, whose first word is the program's name.
 ///
-/// Errors, in this order: `Help`, if help is asked for; `Words`, if the parser refuses the words; `BadOctal`, `OddAddress` or
-/// `BadAddress`, for the start; one of the same three for the address of the first bad breakpoint, or else `BadCount` for its count;
-/// one of the same three for the word to watch, then for an address of the first bad memory range, and then for the bottom. `NoMemory`
-/// at any point, if memory is refused.
+/// Errors, in this order: `Help` or `Words`, if a word asks for help or the parser refuses the words, whichever it meets first;
+/// `BadOctal`, `OddAddress` or `BadAddress`, for the start; one of the same three for the address of the first bad breakpoint, or else
+/// `BadCount` for its count; one of the same three for the word to watch, then for an address of the first bad memory range, and then
+/// for the bottom. `NoMemory` at any point, if memory is refused.
 pub(crate) fn plan<'a, S: AsStr>(alloc: Global, words: &'a [S]) -> Result<TraceTask<'a>, UsageFault>
     ensures planned { Plans (map S.text words.entry.now) result }
     ensures doable { IfOk result (λ task. IsDoable (Sim task.sim)) }

@@ -1,4 +1,4 @@
--- The purpose of a body, as the code's value represents it. (This project's own.)
+-- The purpose of a body that the code's value represents. (This project's own.)
 use Rattle.std.specs.Prelude.{◌≤◌, length, Option, Some, None}
 use Rattle.m11_unfold_rules.specs.Headers.{MacroNamed}
 use Rattle.m11_scan.specs.Line.{line_limit}

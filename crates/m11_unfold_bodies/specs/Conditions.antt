@@ -1,6 +1,6 @@
 -- The open conditions of one expansion, or of the source outside all expansions. (MACRO-11 Language Reference Manual, "Conditional
--- assembly block directives" and "Subconditional assembly block directives". This project's own: at most 32 conditions may be open, and
--- each belongs to its expansion.)
+-- assembly block directives" and "Subconditional assembly block directives". This project's own: at most 32 conditions may be open, in
+-- all expansions and outside them together; an expansion can't switch or close a condition opened outside it, and its own end with it.)
 use Rattle.std.specs.Prelude.{ℕ, ◌+◌, ◌-◌, Bool, true, false, not, ◌||◌, ◌==◌, ◌&&◌, if◌then◌else◌, List, [], ◌∷◌, length}
 use Rattle.m11_unfold_bodies.specs.declared.conditions.OpenCondition.{OpenCondition}
 use Rattle.m11_unfold_bodies.specs.declared.conditions.Part.{Part}

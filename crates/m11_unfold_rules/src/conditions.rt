@@ -188,7 +188,7 @@ fn numeric<N: Names>(
     }
 }
 
-// Whether one of the conditions EQ, NE, GT, LT, GE and LE is true of this number; false for the other conditions.
+// Whether this condition is true of the number, if it is EQ, NE, GT, LT, GE or LE; false for any other condition.
 fn passes(condition: Condition, number: u16) -> bool
     ensures { result ≡ spec.passes condition number }
 {

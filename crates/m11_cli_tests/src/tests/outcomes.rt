@@ -1,4 +1,4 @@
-//! Numbers and names of faults; and the status and the line of each outcome that no case of the suite has.
+//! Numbers and names of faults; and the statuses and the lines of outcomes, among them many that no case of the suite has.
 
 use m11_asm::AsmFault;
 use m11_base::MemorySink;
