@@ -1,7 +1,7 @@
 -- A file that is read, with a buffer from the first read to the end: what is left of it, and what is ready. (This project's own.)
-use Rattle.std.specs.Prelude.{ℕ, ◌<◌, ◌≤◌, [], ⊤, Option, Some, None, MatchOption, Result, MatchResult, if◌then◌else◌, ◌==◌}
-use Rattle.m11_base.specs.Devices.{Bytes, last_count}
-use Rattle.m11_base.specs.Feed.{Text, MayFail, text_of_reader}
+use Rattle.std.specs.Prelude.{◌≡◌, ℕ, ◌<◌, ◌≤◌, [], ⊤, Option, Some, None, MatchOption, Result, MatchResult, IsErr}
+use Rattle.m11_base.specs.Devices.{Bytes, Rises, last_count}
+use Rattle.m11_base.specs.Feed.{Text, Gives, MayFail, text_of_reader}
 use Rattle.m11_base.specs.declared.buffered.BufferedFeed.{BufferedFeed}
 use Rattle.m11_base_files.specs.declared.file_feed.Stage.{Stage}
 use Rattle.m11_base_files.specs.declared.file_feed.Stage.TheVariants.{Unread, Reading, Over, Lost}
@@ -50,3 +50,13 @@ ready_of ready (Lost count) = []
 -- an upper bound on the number of bytes still to come, before and after a read: a byte lowers it
 abbrev pub Shrinks : {E : Type 0} → ℕ → ℕ → Result (Option ℕ) E → Type 0
 Shrinks old new result = MatchResult result (λ byte. MatchOption byte (new ≤ old) (λ _. new < old)) (λ _. new ≤ old)
+
+-- one call of `next`: what it returned agrees with the text before and after the call; the count of failures rose if it failed, and it
+-- failed if the count was at its greatest value; and a byte lowered the bound on those still to come
+abbrev pub Steps : {F : Type 0} {E : Type 0} → (BufferedFeed F → Option Text) → (BufferedFeed F → ℕ) → (BufferedFeed F → ℕ)
+    → Stage F → Stage F → Result (Option ℕ) E → Type 0
+Steps text faults left old new result =
+    Gives (text_since_read text old) (text_since_read text new) (count_of faults old) result
+    × MatchResult result (λ _. count_of faults new ≡ count_of faults old) (λ _. Rises (count_of faults old) (count_of faults new))
+    × (count_of faults old ≡ last_count → IsErr result)
+    × Shrinks (left_of left old) (left_of left new) result

@@ -1,9 +1,8 @@
 //! The feed of a file that is read.
 
-ghost use Rattle.std.specs.Prelude.{◌≡◌, ℕ, IfOk, IsErr, MatchResult};
-ghost use Rattle.m11_base.specs.Devices.{Rises, last_count};
+ghost use Rattle.std.specs.Prelude.{◌≡◌, ℕ, Ok, None, IfOk, IsErr, MatchResult};
 ghost use Rattle.m11_base.specs.Feed.{Gives, text_of_reader};
-ghost use Rattle.m11_base_files.specs.FileFeed.{IsUnread, Shrinks, count_of, left_of, text_of, text_since_read};
+ghost use Rattle.m11_base_files.specs.FileFeed.{IsUnread, Shrinks, Steps, count_of, left_of, text_of};
 ghost use Rattle.m11_base_files.specs.declared.file_feed.Stage.TheVariants as stage;
 
 use m11_base::{BufferedFeed, DeviceFault, Feed};
@@ -58,14 +57,7 @@ impl<F: Read + Drop> Feed for FileFeed<F> {
 
     #[inline]
     fn next(&mut self) -> Result<Option<u8>, DeviceFault> {
-        let returned = match &mut self.stage {
-            Stage::Reading(feed) => feed.next(),
-            _ => self.stage.next_without_buffer(),
-        };
-        if let Ok(None) = returned {
-            self.stage.close();
-        }
-        returned
+        self.stage.next()
     }
 
     // speed: inlined always, as `pass` is, since each line of a source calls both
@@ -86,24 +78,36 @@ impl<F: Read + Drop> Feed for FileFeed<F> {
 }
 
 impl<F: Read + Drop> Stage<F> {
+    // Reads the next byte, as the feed does; `None` is the end, which closes the file.
+    #[inline]
+    fn next(&mut self) -> Result<Option<u8>, DeviceFault>
+        ensures steps { Steps ⟦<BufferedFeed<F> as Feed>⟧.text ⟦<BufferedFeed<F> as Feed>⟧.faults
+            ⟦<BufferedFeed<F> as Feed>⟧.left self.old self.new result }
+        ensures reads { IfOk result (λ _. Gives (text_of F.remaining ⟦<BufferedFeed<F> as Feed>⟧.text self.old)
+            (text_of F.remaining ⟦<BufferedFeed<F> as Feed>⟧.text self.new) 0 result) }
+        ensures closes { result ≡ Ok None
+            → self.new ≡ stage.Over (count_of ⟦<BufferedFeed<F> as Feed>⟧.faults self.old) }
+    {
+        let returned = match self {
+            Stage::Reading(feed) => feed.next(),
+            _ => self.next_without_buffer(),
+        };
+        if let Ok(None) = returned {
+            self.close();
+        }
+        returned
+    }
+
     // Reads the next byte of a file that has no buffer: of one that hasn't been read, or that is closed. `None` is the end; a lost
     // file fails, and so does a closed one whose count of failures is at its greatest value.
     // speed: a function of its own, so that its caller can be inlined.
     #[inline(never)]
     fn next_without_buffer(&mut self) -> Result<Option<u8>, DeviceFault>
-        ensures gives { Gives (text_since_read ⟦<BufferedFeed<F> as Feed>⟧.text self.old)
-            (text_since_read ⟦<BufferedFeed<F> as Feed>⟧.text self.new)
-            (count_of ⟦<BufferedFeed<F> as Feed>⟧.faults self.old) result }
+        ensures steps { Steps ⟦<BufferedFeed<F> as Feed>⟧.text ⟦<BufferedFeed<F> as Feed>⟧.faults
+            ⟦<BufferedFeed<F> as Feed>⟧.left self.old self.new result }
         ensures reads { IfOk result (λ _. Gives (text_of F.remaining ⟦<BufferedFeed<F> as Feed>⟧.text self.old)
             (text_of F.remaining ⟦<BufferedFeed<F> as Feed>⟧.text self.new) 0 result) }
-        ensures counts { MatchResult result
-            (λ _. count_of ⟦<BufferedFeed<F> as Feed>⟧.faults self.new ≡ count_of ⟦<BufferedFeed<F> as Feed>⟧.faults self.old)
-            (λ _. Rises (count_of ⟦<BufferedFeed<F> as Feed>⟧.faults self.old)
-            (count_of ⟦<BufferedFeed<F> as Feed>⟧.faults self.new)) }
-        ensures last { count_of ⟦<BufferedFeed<F> as Feed>⟧.faults self.old ≡ last_count → IsErr result }
         ensures fails { (count : ℕ) → self.old ≡ stage.Lost count → IsErr result }
-        ensures shrinks { Shrinks (left_of ⟦<BufferedFeed<F> as Feed>⟧.left self.old)
-            (left_of ⟦<BufferedFeed<F> as Feed>⟧.left self.new) result }
     {
         match self {
             Stage::Unread(..) => self.first(),
