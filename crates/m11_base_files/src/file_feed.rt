@@ -87,6 +87,7 @@ impl<F: Read + Drop> Stage<F> {
             (text_of F.remaining ⟦<BufferedFeed<F> as Feed>⟧.text self.new) 0 result) }
         ensures closes { result ≡ Ok None
             → self.new ≡ stage.Over (count_of ⟦<BufferedFeed<F> as Feed>⟧.faults self.old) }
+        ensures fails { (count : ℕ) → self.old ≡ stage.Lost count → IsErr result }
     {
         let returned = match self {
             Stage::Reading(feed) => feed.next(),
