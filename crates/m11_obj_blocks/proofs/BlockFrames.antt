@@ -1,13 +1,13 @@
 -- Bytes that are read as blocks are blocks of the format, and blocks of the format are read.
-use Rattle.std.proofs.Common.{◌≡◌, ◌∙◌, ℕ, ◌+◌, ◌-◌, ◌≤◌, false, cond, ltb, List, [], ◌∷◌, ◌++◌, length, sum, take, drop, Ok, Err, refl, sym, ap, subst, append_assoc, arith, inl, inr, ◌⊎◌}
-use Rattle.std.proofs.Math.Seq.{take-append_seam, drop-append_seam}
+use Rattle.std.proofs.Common.{◌≡◌, ◌∙◌, ℕ, ◌+◌, ◌-◌, ◌≤◌, false, cond, ltb, List, [], ◌∷◌, ◌++◌, length, sum, take, drop, slice_index, ◌<◌, Ok, Err, refl, sym, ap, subst, append_assoc, arith, inl, inr, ◌⊎◌}
+use Rattle.std.proofs.Math.Seq.{take-append_seam, drop-append_seam, take-add}
 use Rattle.std.proofs.lemmas.Bool.{le-ltb, ltb-false}
 use Rattle.std.proofs.lemmas.Bool.Decides.{eqb_tells}
-use Rattle.std.proofs.lemmas.List.{take-append-drop, length-append, length-take-le}
+use Rattle.std.proofs.lemmas.List.{take-append-drop, length-append, length-drop, length-take-le, take_more}
 use Rattle.m11_obj_blocks.specs.declared.block_fault.BlockFault.{BlockFault}
 use Rattle.m11_obj_blocks.specs.declared.block_fault.BlockFault.TheVariants as fault
 use Rattle.m11_obj_blocks.specs.Frames.{word_bytes, word, sum_byte, header, block, content_limit, AreBlocks, Nothing, Zero, Block}
-use Rattle.m11_obj_blocks.specs.Limited.{Between, Inside, Refused, Read, ◌>>=◌}
+use Rattle.m11_obj_blocks.specs.Limited.{Position, Took, Reads, Between, Inside, Refused, Read, ◌>>=◌}
 use Rattle.m11_obj_blocks.specs.Blocks.{second, count_of, count, content_of, summed, first_block, AreRead}
 use Rattle.m11_obj_blocks.proofs.FrameReads.{second_takes, second_within, word_takes, word_within, closed_again, closed_takes, closed_within}
 use Rattle.m11_obj_blocks.proofs.ReadSteps.{Bytes, bytes_after, bind_ok, bind_err, chosen, done, rest_is, value_is}
@@ -45,6 +45,31 @@ block_parts xs rest =
 pub block_again : (content rest : List ℕ) → length content ≤ content_limit
     → first_block (block content ++ rest) ≡ Ok (content, rest)
 block_again content rest fits = ap first_block (block_parts content rest) ∙ parts_again content rest fits
+
+-- bytes that begin with a header, content of its length up to this column, and the right sum byte begin with a block
+pub whole_block : (n end : ℕ) (bytes : List ℕ) → end ≡ 4 + n → end < length bytes → take 4 bytes ≡ header n
+    → slice_index bytes end ≡ sum_byte (header (length (take (end - 4) (drop 4 bytes))) ++ take (end - 4) (drop 4 bytes))
+    → (length (take (end - 4) (drop 4 bytes)) ≡ n)
+    × (take (length (take (end - 4) (drop 4 bytes)) + 5) bytes ≡ block (take (end - 4) (drop 4 bytes)))
+unfolding block
+whole_block n end bytes is enough front last =
+    let content : List ℕ = take (end - 4) (drop 4 bytes) in
+    let counted : length content ≡ n =
+        length-take-le (end - 4) (drop 4 bytes) (omega (arith, length-drop 4 bytes)) ∙ omega arith in
+    let sized : length content + 5 ≡ end + 1 = omega (arith, counted) in
+    let ended : end ≡ 4 + (end - 4) = omega arith in
+    let headed : take end bytes ≡ header (length content) ++ content =
+        ap (λ m. take m bytes) ended ∙ take-add 4 (end - 4) bytes ∙ ap (λ l. l ++ content) (front ∙ ap header (sym counted)) in (
+          counted,
+          ap (λ m. take m bytes) sized ∙ take_more bytes end 0 enough ∙ ap (λ l. l ++ slice_index bytes end ∷ []) headed
+          ∙ ap (λ b. (header (length content) ++ content) ++ b ∷ []) last
+        )
+
+-- the bytes of a whole block are read at once
+pub block_taken : (a b : Position) (content : List ℕ) → length content ≤ content_limit → Took a b (block content)
+    → Reads first_block a b content
+block_taken a b content fits took =
+    record { given = block content; took = took; is = λ rest. block_again content rest fits }
 
 -- ---- bytes that are read are a block
 

@@ -6,7 +6,7 @@ use Rattle.m11_obj_blocks.specs.declared.limited.Lack.TheVariants as lack
 use Rattle.m11_obj_blocks.specs.declared.block_fault.BlockFault.{BlockFault}
 use Rattle.m11_obj_blocks.specs.declared.block_fault.BlockFault.TheVariants as fault
 use Rattle.m11_obj_blocks.specs.Limited.{Position, Took, TookInto, Lacks, TookThenLacks, Inside, Refused, Read, ◌>>=◌, Why, Reads, Stops}
-use Rattle.m11_obj_blocks.specs.Frames.{content_limit, header, word_bytes}
+use Rattle.m11_obj_blocks.specs.Frames.{content_limit, word_bytes}
 use Rattle.m11_obj_blocks.specs.Blocks.{start, second, count, count_of, front_of, content_of, summed, first_block, missing, why_of}
 use Rattle.m11_obj_blocks.proofs.FrameReads.{word_again}
 use Rattle.m11_obj_blocks.proofs.Limits.{took_nothing, took_then, first_stops, reads_after, stops_after, then_reads, then_stops}
@@ -104,10 +104,6 @@ module _ (a b : Position) where
 
       pub front_read : (n : ℕ) → Reads count c d n → Reads front_of a d n
       front_read n r = then_reads start start_then a b d tt started n (then_reads second second_then b c d tt begun n r)
-
--- the four bytes before the content are read at once
-pub front_taken : (a b : Position) (n : ℕ) → n ≤ content_limit → Took a b (header n) → Reads front_of a b n
-front_taken a b n fits took = record { given = header n; took = took; is = λ rest. count_again n rest fits }
 
 bind_twice : {A B C E : Type 0} (r : Result A E) (f : A → Result B E) (g : B → Result C E)
     → (r >>= λ x. f x >>= g) ≡ ((r >>= f) >>= g)

@@ -1,5 +1,5 @@
 -- The steps of a read, and its result.
-use Rattle.std.proofs.Common.{◌≡◌, ℕ, ◌<◌, Bool, true, false, cond, eqb, List, [], ◌∷◌, ◌++◌, Result, Ok, Err, refl, ap, inl, inr, ◌⊎◌}
+use Rattle.std.proofs.Common.{◌≡◌, ℕ, ◌<◌, Bool, true, false, cond, eqb, List, [], ◌∷◌, ◌++◌, take, get_or, zero, suc, Result, Ok, Err, refl, ap, inl, inr, ◌⊎◌}
 use Rattle.std.specs.List.{AllByRecursion}
 use Rattle.std.proofs.lemmas.Bool.Decides.{eqb_tells}
 use Rattle.m11_obj_blocks.specs.Limited.{Read, ◌>>=◌}
@@ -14,6 +14,15 @@ bytes_then (x ∷ xs) ys g h = (g.0, bytes_then xs ys g.1 h)
 pub bytes_after : (xs ys : List ℕ) → Bytes (xs ++ ys) → Bytes ys
 bytes_after [] ys small = small
 bytes_after (x ∷ xs) ys small = bytes_after xs ys small.1
+
+pub bytes_known : (xs : List ℕ) → ((i : ℕ) → get_or xs i 0 < 256) → Bytes xs
+bytes_known [] small = tt
+bytes_known (x ∷ xs) small = (small 0, bytes_known xs (λ i. small (suc i)))
+
+pub bytes_of_front : (count : ℕ) (xs : List ℕ) → Bytes xs → Bytes (take count xs)
+bytes_of_front zero xs small = tt
+bytes_of_front (suc count) [] small = tt
+bytes_of_front (suc count) (x ∷ xs) small = (small.0, bytes_of_front count xs small.1)
 
 pub same_eqb : (x : ℕ) → eqb x x ≡ true
 same_eqb x = elim (eqb_tells x x) [ inl hit ↦ hit.0 | inr miss ↦ absurd (miss.1 refl) ]

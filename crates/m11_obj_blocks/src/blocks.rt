@@ -1,9 +1,9 @@
 //! Reads the blocks of an object. (RT-11 Volume and File Formats Manual, "Object file format".)
 
-ghost use Rattle.std.specs.Prelude.{◌≡◌, ◌-◌, ◌<◌, ◌≤◌, ◌↔◌, ℕ, List, length, take, true, false, Ok, Err, IfOk, IfSome, IsErr, IsTrue, MatchOption};
+ghost use Rattle.std.specs.Prelude.{◌≡◌, ◌+◌, ◌-◌, ◌<◌, ◌≤◌, ◌↔◌, ℕ, List, length, take, true, false, Ok, Err, IfOk, IfSome, IsErr, IsTrue, MatchOption};
 ghost use Rattle.std.specs.Bool.{OnTrue, OnFalse};
 ghost use Rattle.std.specs.List.{AllByRecursion};
-ghost use Rattle.m11_obj_blocks.specs.Frames.{content_limit, header, AreBlocks};
+ghost use Rattle.m11_obj_blocks.specs.Frames.{content_limit, header, block, AreBlocks};
 ghost use Rattle.m11_obj_blocks.specs.Limited.{position, most_bytes, Inside, Took};
 ghost use Rattle.m11_obj_blocks.specs.Blocks.{first_block, IsCut, AreRead, ReadsPart, ReadsStart, ReadsFront, ReadsBlock, ReadsInto, second, count, content_of, summed};
 
@@ -111,29 +111,51 @@ fn front_count(bytes: &[u8]) -> Option<u16>
     }
 }
 
-// Reads the four bytes before the content of a block, if they are ready, valid and within the limit, and returns the length of the
-// content. Otherwise it reads nothing.
-fn take_front<F: Feed>(feed: &mut F, room: &mut u32) -> Option<u16>
-    ensures { let old = position (F.text feed.old) (F.faults feed.old) room.old in
-        let new = position (F.text feed.new) (F.faults feed.new) room.new in
-        MatchOption result (new ≡ old) (λ n. (n ≤ content_limit) × Took old new (header n)) }
+// The content of a block, if these bytes begin with the whole block, its length is valid and its sum byte is right; otherwise None.
+fn whole_content(bytes: &[u8]) -> Option<&[u8]>
+    ensures whole { IfSome result (λ content. (length content.now ≤ content_limit) × (length content.now + 5 ≤ length bytes.now)
+        × (take (length content.now + 5) bytes.now ≡ block content.now)) }
+    ensures bytes { IfSome result (λ content. AllByRecursion (λ byte. byte < 256) (block content.now)) }
 {
-    if *room < 4 {
+    let end = 4 + usize::from(front_count(bytes)?);
+    if bytes.len() <= end {
         return None;
     }
-    match front_count(feed.ready()) {
-        Some(count) => {
-            feed.pass(4);
-            *room -= 4;
-            Some(count)
+    let content = &bytes[4..end];
+    if bytes[end] != block_sum(content) {
+        return None;
+    }
+    Some(content)
+}
+
+// Reads a block, and stores its content in place of the old one, if the whole block is ready, valid and within the limit. Otherwise
+// it reads nothing and returns false.
+fn take_block<F: Feed>(feed: &mut F, room: &mut u32, content: &mut Block) -> bool
+    ensures reads { let old = position (F.text feed.old) (F.faults feed.old) room.old in
+        let new = position (F.text feed.new) (F.faults feed.new) room.new in
+        OnTrue result ((length content.new.items ≤ content_limit) × Took old new (block content.new.items)) }
+    ensures leaves { OnFalse result (position (F.text feed.new) (F.faults feed.new) room.new
+        ≡ position (F.text feed.old) (F.faults feed.old) room.old) }
+{
+    match whole_content(feed.ready()) {
+        Some(bytes) => {
+            let count = bytes.len() + 5;
+            if (*room as usize) < count {
+                return false;
+            }
+            content.clear();
+            content.try_extend_from_slice(bytes).unwrap();
+            feed.pass(count);
+            *room -= count as u32;
+            true
         }
-        None => None,
+        None => false,
     }
 }
 
-// Reads zeros and the four bytes before the content of a block, byte by byte. Returns the length of the content, or `None` if the
-// bytes end before a block.
-fn read_front_bytes<F: Feed>(feed: &mut F, room: &mut u32) -> Result<Option<u16>, BlockFault>
+// Reads zeros and the four bytes before the content of a block, and returns the length of the content, or `None` if the bytes end
+// before a block.
+fn read_front<F: Feed>(feed: &mut F, room: &mut u32) -> Result<Option<u16>, BlockFault>
     ensures front { ReadsFront (position (F.text feed.old) (F.faults feed.old) room.old)
         (position (F.text feed.new) (F.faults feed.new) room.new) result }
     ensures fits { IfOk result (λ front. IfSome front (λ n. n ≤ content_limit)) }
@@ -146,22 +168,9 @@ fn read_front_bytes<F: Feed>(feed: &mut F, room: &mut u32) -> Result<Option<u16>
     Ok(Some(count))
 }
 
-// Reads zeros and the four bytes before the content of a block, and returns the length of the content, or `None` if the bytes end
-// before a block.
-// speed: four bytes that are ready are read at once; byte by byte, they would take four calls of the feed for each block.
-fn read_front<F: Feed>(feed: &mut F, room: &mut u32) -> Result<Option<u16>, BlockFault>
-    ensures front { ReadsFront (position (F.text feed.old) (F.faults feed.old) room.old)
-        (position (F.text feed.new) (F.faults feed.new) room.new) result }
-    ensures fits { IfOk result (λ front. IfSome front (λ n. n ≤ content_limit)) }
-{
-    match take_front(feed, room) {
-        Some(count) => Ok(Some(count)),
-        None => read_front_bytes(feed, room),
-    }
-}
-
-// Reads a block, and stores its content in place of the old one. Returns false if the bytes end before a block.
-fn read_block<F: Feed>(
+// Reads a block part by part, as it must where zeros come first, where only some of its bytes are ready, or where it has a fault.
+// Returns false if the bytes end before a block.
+fn read_parts<F: Feed>(
     feed: &mut F,
     room: &mut u32,
     content: &mut Block,
@@ -177,6 +186,22 @@ fn read_block<F: Feed>(
         }
         None => Ok(false),
     }
+}
+
+// Reads a block, and stores its content in place of the old one. Returns false if the bytes end before a block.
+// speed: a block that is ready is read in one look; part by part it would take seven calls of the feed.
+fn read_block<F: Feed>(
+    feed: &mut F,
+    room: &mut u32,
+    content: &mut Block,
+) -> Result<bool, BlockFault>
+    ensures { ReadsInto content.new.items (position (F.text feed.old) (F.faults feed.old) room.old)
+        (position (F.text feed.new) (F.faults feed.new) room.new) result }
+{
+    if take_block(feed, room, content) {
+        return Ok(true);
+    }
+    read_parts(feed, room, content)
 }
 
 /// A reader reads exactly the blocks in the bytes, one after another. It finds that the bytes end inside a block if and only if the
