@@ -12,6 +12,9 @@ use m11_scan::{ErrorFlags, Line, next_token, skipped_between};
 pub fn left_over(line: &Line, column: u8) -> ErrorFlags
     ensures { bits_of result ≡ spec.left_over line.now.text column }
 {
+    if column >= line.end() {
+        return ErrorFlags::none();
+    }
     ErrorFlags::Q
         .when(has_token(line, column))
         .with(rest_flags(line, column))
