@@ -529,7 +529,7 @@ class Pass:
 
     def line(self, text, over, depth):
         if self.taking is not None:
-            self.take_into(text, depth)
+            self.add_to_body(text, depth)
             return
         if self.conds and self.conds[-1]["skip"]:
             c = self.conds[-1]
@@ -547,7 +547,7 @@ class Pass:
             return
         self.live(text, over, depth)
 
-    def take_into(self, text, depth):
+    def add_to_body(self, text, depth):
         b = self.taking
         op = self.operator_of(text)
         if op in CLOSERS:

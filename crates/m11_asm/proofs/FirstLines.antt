@@ -19,7 +19,7 @@ use Rattle.m11_scan_line_laws.specs.Extents.{GaveLines}
 use Rattle.m11_unfold_rules.specs.Stages.{start}
 use Rattle.m11_asm.specs.Extents as extents
 use Rattle.m11_asm.specs.Extents.{GivesToEnd}
-use Rattle.m11_asm.specs.FirstReading.{FirstStops, FirstTaken, GivesSymbols, ReadsLines}
+use Rattle.m11_asm.specs.FirstReading.{FirstStops, FirstPassDone, GivesSymbols, ReadsLines}
 use Rattle.m11_asm.specs.Outcome as outcome
 use Rattle.m11_asm.specs.Outcome.{Unended}
 use Rattle.m11_base_writes.specs.Passes.{Pass, pass_of}
@@ -36,7 +36,7 @@ FirstSoFar text faults initial here reader first =
 module _ {F : Type 0} (text : F → Option Text) (faults : F → ℕ) (initial here : List F) (reader : LineReading) (first : FirstState)
     (so : FirstSoFar text faults initial here reader first) where
   -- if `.END` has become live, the pass is done with all lines that it reads
-  pub first_ended : first.has_ended ≡ true → FirstTaken (pass_of text faults initial here) first
+  pub first_ended : first.has_ended ≡ true → FirstPassDone (pass_of text faults initial here) first
   first_ended ends = taken_to_end text faults initial here reader (λ source. FirstAfter source first) first.has_ended so ends
 
   module _ (goes : first.has_ended ≡ false) (later : List F) (reader' : LineReading) where
@@ -44,7 +44,7 @@ module _ {F : Type 0} (text : F → Option Text) (faults : F → ℕ) (initial h
     unended = unended_so empty_map none_used (AreFactsOf first.facts) so.source (line_state first) so.stands goes
 
     pub first_read : ReadsNext (position text faults here reader) (position text faults later reader') (Ok None)
-        → FirstTaken (pass_of text faults initial later) first
+        → FirstPassDone (pass_of text faults initial later) first
     first_read next =
         taken_wholly text faults initial here reader (λ source. FirstAfter source first) first.has_ended so goes later reader' next
 
@@ -155,20 +155,20 @@ no_fault first came none some = none_some (sym none ∙ some)
     none_some : None ≡ Some came → ⊥
     none_some e = cc
 
-pub all_given : {F : Type 0} (pass : Pass F) (first : FirstState) → FirstTaken pass first → (result : Result Symbols AsmFault)
+pub all_given : {F : Type 0} (pass : Pass F) (first : FirstState) → FirstPassDone pass first → (result : Result Symbols AsmFault)
     → IfOk result (λ symbols. symbols ≡ symbols_of first) → result_err result ≡ first.fault → GivesSymbols pass result
 all_given pass first taken (Ok symbols) is ends = (first, taken, is)
 all_given pass first taken (Err stopped) is ends = absurd (no_fault first stopped taken.stands.goes_on (sym ends))
 
 -- a first pass that ends without a fault has read the source of these live lines
-module _ {F : Type 0} (pass : Pass F) (first : FirstState) (taken : FirstTaken pass first) where
+module _ {F : Type 0} (pass : Pass F) (first : FirstState) (taken : FirstPassDone pass first) where
   pub first_reads : ReadsFirst pass (Ok taken.stands.lines)
   first_reads = (
     taken.reading,
     taken.reads,
     record { read = length taken.source; has_end = first.has_ended },
     ends_by empty_map none_used taken.source taken.stands.lines first.pass_state.unfolder.stage taken.stands.taken.stands.lines_are
-        first.has_ended taken.stands.ended taken.stands.needs taken.reading first.has_ended refl taken.taken_up,
+        first.has_ended taken.stands.ended taken.stands.needs taken.reading first.has_ended refl taken.lines_are_read,
   )
 
   pub first_gives : GivesToEnd pass empty_map none_used taken.stands.lines

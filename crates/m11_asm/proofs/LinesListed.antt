@@ -17,7 +17,7 @@ use Rattle.m11_asm_passes.specs.Placed.{IsPlaced}
 use Rattle.m11_asm_passes.specs.declared.placed.PlacedLine.{PlacedLine}
 use Rattle.m11_asm_rules.specs.Contents.{Emission}
 use Rattle.m11_asm_rules.specs.Items.{is_listed, content_items, items}
-use Rattle.m11_asm_rules.specs.Labels.{labels_stand}
+use Rattle.m11_asm_rules.specs.Labels.{after_labels_in}
 use Rattle.m11_asm_rules.specs.Lines.{after_line, line_emission, put_location, stands}
 use Rattle.m11_asm_rules.specs.Operations.{action}
 use Rattle.m11_asm_rules.specs.Meanings.{Map}
@@ -63,7 +63,7 @@ module _ (map : Map) (table : Table) (given : UnfoldedLine) (placed : PlacedLine
       ∙ ap (λ (c : List PieceContent). flat_map content_items c ++ option_to_list placed.assigned) (sym same ∙ is.contents_are)
       ∙ ap (λ (l : List Item). flat_map content_items (line_emission map (stands table given) given).contents ++ l) is.assigned_is
 
-  pub shown_so : ((table : Table) (line : Bytes) → location (labels_stand table line) ≡ location table)
+  pub shown_so : ((table : Table) (line : Bytes) → location (after_labels_in table line) ≡ location table)
       → not (flags == 0) || placed.is_shown ≡ true → (all : List Item)
       → all ≡ flat_map content_items contents ++ option_to_list placed.assigned → (text : Bytes) → text ≡ placed.live.line.text
       → all_to_listing (listed_lines (flags_text flags) number placed.counter placed.location all text)

@@ -75,7 +75,7 @@ module _ {F : Type 0} (text : F → Option Text) (faults : F → ℕ) (initial h
           reads = b.reads;
           source = so.source;
           stands = so.stands;
-          taken_up = subst P (sym ends) (b.more, b.are);
+          lines_are_read = subst P (sym ends) (b.more, b.are);
           given = subst Q (sym ends) (lines_given text faults initial here reader so.source so.read);
         }
 
@@ -92,7 +92,7 @@ module _ {F : Type 0} (text : F → Option Text) (faults : F → ℕ) (initial h
           reads = all_read text faults initial here reader so.source so.read later reader' next;
           source = so.source;
           stands = so.stands;
-          taken_up = subst P (sym goes) (refl, refl);
+          lines_are_read = subst P (sym goes) (refl, refl);
           given = subst Q (sym goes) (given_all text faults initial here reader so.source so.read later reader' next);
         }
 

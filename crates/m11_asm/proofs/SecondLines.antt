@@ -28,7 +28,7 @@ use Rattle.m11_asm.specs.Outcome.{Ends, Unended}
 use Rattle.m11_asm.specs.Passes as passes
 use Rattle.m11_base_writes.specs.Passes.{Pass, pass_of}
 use Rattle.m11_asm.specs.Passes.{ReadsSecond, StopsAmongWrites}
-use Rattle.m11_asm.specs.SecondReading.{PutsAll, SecondTaken}
+use Rattle.m11_asm.specs.SecondReading.{PutsAll, SecondPassDone}
 use Rattle.m11_asm.proofs.LinesRead.{Begun, SoFar, begun, failed, few_read, lines_given, one_more, reader_begins, too_many, too_much}
 use Rattle.m11_asm.proofs.LinesTaken.{IsAfterSoFar, ends_by, given_to_end, given_to_fault, taken_to_end, taken_wholly, unended_at, unended_so}
 use Rattle.m11_asm.specs.LinesDone.{LinesDone}
@@ -68,7 +68,7 @@ module _ {F : Type 0} (text : F → Option Text) (faults : F → ℕ) (program :
   module _ (initial here : List F) (reader : LineReading) (now : Outputs) (second : SecondState)
       (so : SecondSoFar text faults initial here reader program old now second) where
     -- if `.END` has become live, the pass is done with all lines that it reads
-    pub second_ended : second.has_ended ≡ true → SecondTaken (pass_of text faults initial here) program old now second
+    pub second_ended : second.has_ended ≡ true → SecondPassDone (pass_of text faults initial here) program old now second
     second_ended ends =
         taken_to_end text faults initial here reader (λ source. SecondAfter program source old now second) second.has_ended so ends
 
@@ -81,7 +81,7 @@ module _ {F : Type 0} (text : F → Option Text) (faults : F → ℕ) (program :
           unended_so program.map Definitions (Wrote program old now second.writing) so.source (line_state second) stands goes
 
       pub second_read : ReadsNext (position text faults here reader) (position text faults later reader') (Ok None)
-          → SecondTaken (pass_of text faults initial later) program old now second
+          → SecondPassDone (pass_of text faults initial later) program old now second
       second_read next =
           taken_wholly text faults initial here reader (λ source. SecondAfter program source old now second) second.has_ended so goes
           later reader' next
@@ -185,7 +185,7 @@ module _ {F : Type 0} (text : F → Option Text) (faults : F → ℕ) (program :
 
   -- ---- the end
 
-  module _ (pass : Pass F) (now new : Outputs) (second : SecondState) (taken : SecondTaken pass program old now second)
+  module _ (pass : Pass F) (now new : Outputs) (second : SecondState) (taken : SecondPassDone pass program old now second)
       (result : Result AsmDone AsmFault) (ends : SecondEnds program taken.source old new second result) where
     all_ends : Ends program.map Definitions taken.reading ends.lines (ended_with second)
     all_ends =
@@ -193,7 +193,7 @@ module _ {F : Type 0} (text : F → Option Text) (faults : F → ℕ) (program :
         let P : EndOfSource → Type 0 = λ e. Ends program.map Definitions taken.reading ends.lines e in
         subst P (sym (ap at ends.read))
         (ends_by program.map Definitions taken.source ends.lines ends.stage ends.live second.has_ended ends.ended ends.needs
-        taken.reading second.has_ended refl taken.taken_up)
+        taken.reading second.has_ended refl taken.lines_are_read)
 
     among_all : (Stop : List Write → Type 0) → Stop (program_writes program ends.lines (ended_with second))
         → StopsAmongWrites Stop program taken.reading

@@ -11,13 +11,13 @@ use Rattle.m11_asm.specs.SourceRead.{SourceRead}
 use Rattle.m11_asm.specs.declared.done.AsmDone.{AsmDone}
 
 -- the pass is done with all lines that it reads from the feeds, and exactly their writes were made
-abbrev pub SecondTaken : {F : Type 0} → Pass F → Program → Outputs → Outputs → SecondState → Type 0
-SecondTaken pass program old new second = SourceRead pass (λ source. SecondAfter program source old new second) second.has_ended
+abbrev pub SecondPassDone : {F : Type 0} → Pass F → Program → Outputs → Outputs → SecondState → Type 0
+SecondPassDone pass program old new second = SourceRead pass (λ source. SecondAfter program source old new second) second.has_ended
 
 -- the second pass has this result: it writes what `ReadsSecond` says, and reads its feeds as far as `SecondGives` says
 abbrev pub PutsAll : {F : Type 0} → Pass F → Program → Outputs → Outputs → Result AsmDone AsmFault → Type 0
 PutsAll pass program old new result = ReadsSecond pass program old new result × SecondGives pass program result
 
 abbrev pub PutsLines : {F : Type 0} → Pass F → Program → Outputs → Outputs → SecondState → Result (Unit {0}) AsmFault → Type 0
-PutsLines pass program old new second (Ok done) = SecondTaken pass program old new second
+PutsLines pass program old new second (Ok done) = SecondPassDone pass program old new second
 PutsLines pass program old new second (Err stopped) = PutsAll pass program old new (Err stopped)

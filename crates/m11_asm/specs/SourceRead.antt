@@ -17,5 +17,5 @@ pub record SourceRead {F : Type 0} (pass : Pass F) (After : List SourceLine → 
   pub reads : Reads pass reading
   pub source : List SourceLine
   pub stands : After source
-  pub taken_up : AreLinesRead reading source has_ended
+  pub lines_are_read : AreLinesRead reading source has_ended
   pub given : HaveGiven pass source has_ended

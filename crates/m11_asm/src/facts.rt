@@ -5,7 +5,7 @@ ghost use Rattle.std.specs.Prelude.{◌≡◌, IfOk, option_map};
 ghost use Rattle.std.specs.Option.{option_to_list, option_or};
 ghost use Rattle.m11_scan_expressions.specs.Quantities.{quantity};
 ghost use Rattle.m11_unfold_rules.specs.Unfolding.{UnfoldedLine};
-ghost use Rattle.m11_asm_directives.specs.Settings.{setting_seen};
+ghost use Rattle.m11_asm_directives.specs.Settings.{setting_model};
 ghost use Rattle.m11_asm_lines.specs.Actions.{action_in};
 ghost use Rattle.m11_asm_passes.specs.Placed.{IsLive};
 ghost use Rattle.m11_scan_expressions.specs.Tokens.{expression_of};
@@ -135,7 +135,7 @@ impl Facts {
         names: &[Option<Span>],
         setting: Setting,
     ) -> Result<(), AllocError>
-        ensures { IfOk result (λ _. self.new ≡ with_action table.now (setting_seen line.now.text names.now setting) self.old) }
+        ensures { IfOk result (λ _. self.new ≡ with_action table.now (setting_model line.now.text names.now setting) self.old) }
     {
         match setting {
             Setting::Entitle(name) => {

@@ -5,11 +5,11 @@ use Rattle.m11_asm_rules.specs.Locations as locations
 use Rattle.m11_asm_directives.specs.declared.changes.Move.{Move}
 use Rattle.m11_asm_directives.specs.declared.changes.Move.TheVariants.{Steps, Goes}
 
-abbrev pub move_seen : Move → locations.Move
-move_seen (Steps size) = locations.Steps size
-move_seen (Goes location) = locations.Goes location
+abbrev pub move_model : Move → locations.Move
+move_model (Steps size) = locations.Steps size
+move_model (Goes location) = locations.Goes location
 
 -- the change of the location counter that a move makes; without a move, the change that keeps the counter
 abbrev pub moves : Option Move → Change
-moves (Some step) = Counts (move_seen step)
+moves (Some step) = Counts (move_model step)
 moves None = Keeps

@@ -3,7 +3,7 @@ use Rattle.m11_asm_rules.specs.Psects as sections
 use Rattle.m11_asm_directives.specs.declared.psects.SectionAt.{SectionAt}
 use Rattle.m11_asm_directives.specs.declared.psects.SectionAt.TheVariants.{Unnamed, Named, Bad}
 
-abbrev pub section_seen : SectionAt → sections.SectionAt
-section_seen Unnamed = sections.Unnamed
-section_seen (Named name) = sections.NamedAt name.name name.end
-section_seen Bad = sections.Bad
+abbrev pub section_model : SectionAt → sections.SectionAt
+section_model Unnamed = sections.Unnamed
+section_model (Named name) = sections.NamedAt name.name name.end
+section_model Bad = sections.Bad

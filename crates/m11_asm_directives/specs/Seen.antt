@@ -7,8 +7,8 @@ use Rattle.m11_asm_directives.specs.declared.parts.Parts.{Parts}
 abbrev pub parts_of : List Part → ℕ → ListAt Part
 parts_of list end = record { list = list; end = end }
 
-abbrev pub parts_seen : Parts → ListAt Part
-parts_seen parts = parts_of parts.list.items parts.end
+abbrev pub parts_model : Parts → ListAt Part
+parts_model parts = parts_of parts.list.items parts.end
 
 -- parts put before others; they end where the others end
 abbrev pub parts_then : List Part → ListAt Part → ListAt Part

@@ -12,18 +12,18 @@ use Rattle.m11_asm_directives.specs.declared.settings.Effect.{Effect}
 use Rattle.m11_asm_directives.specs.declared.settings.Setting.{Setting}
 use Rattle.m11_asm_directives.specs.declared.settings.Setting.TheVariants.{Nothing, Select, Export, SetNumber, SetRadix, MoveLevel, ListExpansions, Entitle, Identify, Transfer}
 
-abbrev pub setting_seen : Bytes → List (Option Span) → Setting → actions.Action
-setting_seen line names Nothing = actions.NoAction
-setting_seen line names (Select name attributes) =
+abbrev pub setting_model : Bytes → List (Option Span) → Setting → actions.Action
+setting_model line names Nothing = actions.NoAction
+setting_model line names (Select name attributes) =
     actions.Select name (bits_of attributes) (attributes_named (texts_of line names))
-setting_seen line names (Export is_weak) = actions.Export is_weak (names_of (texts_of line names))
-setting_seen line names (SetNumber name number) = actions.SetNumber name number
-setting_seen line names (SetRadix radix) = actions.SetRadix radix
-setting_seen line names (MoveLevel goes_up) = actions.MoveLevel goes_up
-setting_seen line names (ListExpansions are_listed) = actions.ListExpansions are_listed
-setting_seen line names (Entitle name) = actions.Entitle name
-setting_seen line names (Identify name) = actions.Identify name
-setting_seen line names (Transfer place) = actions.Transfer (expression_of line place)
+setting_model line names (Export is_weak) = actions.Export is_weak (names_of (texts_of line names))
+setting_model line names (SetNumber name number) = actions.SetNumber name number
+setting_model line names (SetRadix radix) = actions.SetRadix radix
+setting_model line names (MoveLevel goes_up) = actions.MoveLevel goes_up
+setting_model line names (ListExpansions are_listed) = actions.ListExpansions are_listed
+setting_model line names (Entitle name) = actions.Entitle name
+setting_model line names (Identify name) = actions.Identify name
+setting_model line names (Transfer place) = actions.Transfer (expression_of line place)
 
-abbrev pub effect_seen : Bytes → List (Option Span) → Effect → actions.Operation
-effect_seen line names effect = actions.does (setting_seen line names effect.setting) (views.bits_of effect.flags)
+abbrev pub effect_model : Bytes → List (Option Span) → Effect → actions.Operation
+effect_model line names effect = actions.does (setting_model line names effect.setting) (views.bits_of effect.flags)

@@ -7,7 +7,7 @@ ghost use Rattle.m11_unfold_rules.specs.Conditions.{text_of};
 ghost use Rattle.m11_asm_rules.specs.Actions.{NoAction, SetNumber};
 ghost use Rattle.m11_asm_rules.specs.Counts as spec;
 ghost use Rattle.m11_base.specs.Devices.{Bytes};
-ghost use Rattle.m11_asm_directives.specs.Settings.{effect_seen, setting_seen};
+ghost use Rattle.m11_asm_directives.specs.Settings.{effect_model, setting_model};
 ghost use Rattle.m11_scan_statements.specs.declared.spans.Span.{Span};
 
 use crate::settings::{Effect, Setting, refused};
@@ -21,7 +21,7 @@ use m11_unfold_rules::{actual_flags, name_at};
 /// Reads a `.NARG`, which assigns its name the number of actuals of the innermost macro call. Outside a macro it does nothing, and is
 /// flagged O; without a name it does nothing, and is flagged A. Both flags are possible.
 pub fn narg(arguments: Option<u16>, line: &Line, start: u8) -> Effect
-    ensures { (names : List (Option Span)) → effect_seen line.now.text names result ≡ spec.narg arguments line.now.text start }
+    ensures { (names : List (Option Span)) → effect_model line.now.text names result ≡ spec.narg arguments line.now.text start }
 {
     let outside = ErrorFlags::O.when(arguments.is_none());
     match name_at(line, start) {
@@ -37,7 +37,7 @@ pub fn narg(arguments: Option<u16>, line: &Line, start: u8) -> Effect
 }
 
 fn counted(name: Name, arguments: Option<u16>) -> Setting
-    ensures { (line : Bytes) (names : List (Option Span)) → setting_seen line names result
+    ensures { (line : Bytes) (names : List (Option Span)) → setting_model line names result
         ≡ elim arguments [ Some count ↦ SetNumber name count | None ↦ NoAction ] }
 {
     match arguments {
@@ -49,7 +49,7 @@ fn counted(name: Name, arguments: Option<u16>) -> Setting
 /// Reads a `.NCHR`, which assigns its name the number of characters of its text. Without a name it does nothing, and is flagged A. A
 /// missing text counts as 0 characters, and is flagged A unless a comma comes before it.
 pub fn nchr(line: &Line, start: u8) -> Effect
-    ensures { (names : List (Option Span)) → effect_seen line.now.text names result ≡ spec.nchr line.now.text start }
+    ensures { (names : List (Option Span)) → effect_model line.now.text names result ≡ spec.nchr line.now.text start }
 {
     match name_at(line, start) {
         Some(name) => Effect {

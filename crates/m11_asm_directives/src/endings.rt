@@ -6,7 +6,7 @@ ghost use Rattle.m11_scan.specs.Views.{bits_of};
 ghost use Rattle.m11_scan_expressions.specs.Quantities.{quantity};
 ghost use Rattle.m11_scan_expressions.specs.Tokens.{expression_of};
 ghost use Rattle.m11_asm_rules.specs.Exports as spec;
-ghost use Rattle.m11_asm_directives.specs.Settings.{effect_seen};
+ghost use Rattle.m11_asm_directives.specs.Settings.{effect_model};
 ghost use Rattle.m11_scan_statements.specs.declared.spans.Span.{Span};
 
 use crate::assigning::known_value;
@@ -65,7 +65,7 @@ fn among(flags: ErrorFlags, set: u16) -> ErrorFlags
 
 /// Reads an `.END`: its expression is the transfer address, if it has one.
 pub fn ending(line: &Line, start: u8) -> Effect
-    ensures { (names : List (Option Span)) → effect_seen line.now.text names result ≡ spec.ending line.now.text start }
+    ensures { (names : List (Option Span)) → effect_model line.now.text names result ≡ spec.ending line.now.text start }
 {
     let read = expr_at(line, start);
     Effect {

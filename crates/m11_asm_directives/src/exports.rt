@@ -6,7 +6,7 @@ ghost use Rattle.std.specs.Option.{option_to_list};
 ghost use Rattle.m11_scan.specs.Views.{bits_of};
 ghost use Rattle.m11_asm_rules.specs.Elements.{argument_flags, bad_flags, names_of, texts_of};
 ghost use Rattle.m11_asm_rules.specs.Exports as spec;
-ghost use Rattle.m11_asm_directives.specs.Settings.{effect_seen};
+ghost use Rattle.m11_asm_directives.specs.Settings.{effect_model};
 
 use crate::settings::{Effect, Setting};
 use m11_asm_operands::{ListedNames, argument_flags};
@@ -17,7 +17,7 @@ use m11_scan_statements::Span;
 /// Reads a `.GLOBL`, which makes its names global, or a `.WEAK`, which makes them global and weak. An element that isn't a name is flagged
 /// A.
 pub fn exported(names: &mut ListedNames, is_weak: bool, line: &Line, start: u8) -> Effect
-    ensures { effect_seen line.now.text names.new.list.items result ≡ spec.exported is_weak line.now.text start }
+    ensures { effect_model line.now.text names.new.list.items result ≡ spec.exported is_weak line.now.text start }
 {
     names.read(line, start);
     Effect {

@@ -10,7 +10,7 @@ ghost use Rattle.m11_scan_statements.specs.Parts.{part_flags};
 ghost use Rattle.m11_scan_expressions.specs.LeftOvers.{skip_flags};
 ghost use Rattle.m11_scan_statements.specs.declared.parts.Part.{Part};
 ghost use Rattle.m11_scan_statements.specs.declared.parts.PartKind.TheVariants as kind;
-ghost use Rattle.m11_asm_directives.specs.Seen.{parts_seen};
+ghost use Rattle.m11_asm_directives.specs.Seen.{parts_model};
 
 use crate::parts::Parts;
 use m11_scan::{ErrorFlags, Line};
@@ -19,7 +19,7 @@ use m11_scan_statements::{Part, PartKind};
 
 // The flags of a text: A if it has no part, those of its parts, and those of what is left over.
 pub(crate) fn text_flags(line: &Line, start: u8, parts: &Parts) -> ErrorFlags
-    ensures { bits_of result ≡ spec.text_flags line.now.text start (parts_seen parts.now) }
+    ensures { bits_of result ≡ spec.text_flags line.now.text start (parts_model parts.now) }
 {
     let list = parts.list.as_slice();
     let flags = empty_flags(list).with(parts_flags(line, start, list));

@@ -6,7 +6,7 @@ ghost use Rattle.m11_scan_statements.specs.declared.spans.Span.{Span};
 ghost use Rattle.m11_asm_rules.specs.Exports as spec;
 ghost use Rattle.m11_asm_rules.specs.Strings.{character_flags, six_codes};
 ghost use Rattle.m11_asm_directives.specs.Codes.{coded, coded_at};
-ghost use Rattle.m11_asm_directives.specs.Settings.{effect_seen};
+ghost use Rattle.m11_asm_directives.specs.Settings.{effect_model};
 
 use crate::settings::{Effect, Setting, refused};
 use m11_base::{Name, Rad50};
@@ -17,7 +17,7 @@ use m11_scan_statements::{Part, PartKind, next_part};
 /// Reads an `.IDENT`: the first six characters of its text identify the module. A character without a RADIX-50 code counts as a blank, and
 /// is flagged A. Without a text, or with an expression in place of the text, the directive does nothing, and is flagged A.
 pub fn ident(line: &Line, start: u8) -> Effect
-    ensures { (names : List (Option Span)) → effect_seen line.now.text names result ≡ spec.ident line.now.text start }
+    ensures { (names : List (Option Span)) → effect_model line.now.text names result ≡ spec.ident line.now.text start }
 {
     match next_part(line, start, true) {
         Some(part) => match part.kind {

@@ -8,7 +8,7 @@ ghost use Rattle.m11_scan.specs.Views.{bits_of};
 ghost use Rattle.m11_asm_rules.specs.Actions.{ListExpansions, NoAction};
 ghost use Rattle.m11_asm_rules.specs.Control as spec;
 ghost use Rattle.m11_asm_rules.specs.Elements.{names_at, texts_of};
-ghost use Rattle.m11_asm_directives.specs.Settings.{effect_seen, setting_seen};
+ghost use Rattle.m11_asm_directives.specs.Settings.{effect_model, setting_model};
 ghost use Rattle.m11_scan_statements.specs.declared.spans.Span.{Span};
 
 use crate::exports::names_flags;
@@ -33,7 +33,7 @@ const ENABLED_WORDS: [[u8; 6]; 2] = [*b"LC    ", *b"GBL   "];
 /// Reads a `.LIST` or a `.NLIST`. Without arguments it raises or lowers the listing level; with ME among its arguments it turns the listing
 /// of expansions on or off. Other arguments do nothing, and are flagged A if they are unknown.
 pub fn listing(names: &mut ListedNames, is_list: bool, line: &Line, start: u8) -> Effect
-    ensures { effect_seen line.now.text names.new.list.items result ≡ spec.listing is_list line.now.text start }
+    ensures { effect_model line.now.text names.new.list.items result ≡ spec.listing is_list line.now.text start }
 {
     if has_token(line, start) {
         let flags = words_flags(names, &LISTING_WORDS, line, start);
@@ -49,7 +49,7 @@ pub fn listing(names: &mut ListedNames, is_list: bool, line: &Line, start: u8) -
 
 fn by_words(is_list: bool, has_expansions: bool) -> Setting
     ensures { (line : Bytes) (names : List (Option Span))
-        → setting_seen line names result ≡ (if has_expansions then ListExpansions is_list else NoAction) }
+        → setting_model line names result ≡ (if has_expansions then ListExpansions is_list else NoAction) }
 {
     if has_expansions {
         Setting::ListExpansions(is_list)
@@ -83,7 +83,7 @@ fn is_word(line: &Line, name: Option<Span>, word: &[u8; 6]) -> bool
 
 /// Reads an `.ENABL`, which changes nothing. It is flagged A for any argument but LC and GBL, and for a missing argument.
 pub fn enabl(names: &mut ListedNames, line: &Line, start: u8) -> Effect
-    ensures { effect_seen line.now.text names.new.list.items result ≡ spec.enabl line.now.text start }
+    ensures { effect_model line.now.text names.new.list.items result ≡ spec.enabl line.now.text start }
 {
     Effect {
         setting: Setting::Nothing,
@@ -93,7 +93,7 @@ pub fn enabl(names: &mut ListedNames, line: &Line, start: u8) -> Effect
 
 /// Reads a `.DSABL`, which changes nothing. It is always flagged A, since no argument is supported, and a missing one is an error too.
 pub fn dsabl(names: &mut ListedNames, line: &Line, start: u8) -> Effect
-    ensures { effect_seen line.now.text names.new.list.items result ≡ spec.dsabl line.now.text start }
+    ensures { effect_model line.now.text names.new.list.items result ≡ spec.dsabl line.now.text start }
 {
     Effect {
         setting: Setting::Nothing,

@@ -2,7 +2,7 @@
 
 ghost use Rattle.std.specs.Prelude.{◌≡◌, ◌≤◌, ◌*◌};
 ghost use Rattle.m11_asm_rules.specs.Strings as spec;
-ghost use Rattle.m11_asm_directives.specs.Seen.{parts_seen};
+ghost use Rattle.m11_asm_directives.specs.Seen.{parts_model};
 
 use arrayvec::ArrayVec;
 use m11_scan::Line;
@@ -32,7 +32,7 @@ impl Parts {
 
     /// Reads the parts of a text that begins at a column of a line, in place of the parts read before.
     pub fn read(&mut self, line: &Line, start: u8)
-        ensures { parts_seen self.new ≡ spec.parts_at line.now.text start }
+        ensures { parts_model self.new ≡ spec.parts_at line.now.text start }
     {
         self.list.clear();
         let mut is_first = true;

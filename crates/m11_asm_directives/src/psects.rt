@@ -3,8 +3,8 @@
 ghost use Rattle.std.specs.Prelude.{◌≡◌};
 ghost use Rattle.m11_scan_statements.specs.Listed.{is_comma};
 ghost use Rattle.m11_asm_rules.specs.Psects as spec;
-ghost use Rattle.m11_asm_directives.specs.Settings.{effect_seen};
-ghost use Rattle.m11_asm_directives.specs.SectionNames.{section_seen};
+ghost use Rattle.m11_asm_directives.specs.Settings.{effect_model};
+ghost use Rattle.m11_asm_directives.specs.SectionNames.{section_model};
 
 use crate::attributes::has_unnamed;
 use crate::exports::names_flags;
@@ -30,7 +30,7 @@ pub enum SectionAt {
 // Reads the name of a section at a column. There is no name if no token is left, or if a comma comes first. Anything else that isn't a name
 // is bad.
 fn section_at(line: &Line, start: u8) -> SectionAt
-    ensures { section_seen result ≡ spec.section_at line.now.text start }
+    ensures { section_model result ≡ spec.section_at line.now.text start }
 {
     match next_token(line, start) {
         None => SectionAt::Unnamed,
@@ -51,7 +51,7 @@ fn is_comma(sort: Sort) -> bool
 /// Reads a `.PSECT`, which selects the section with its name, or the blank section without a name. A new section gets the attributes in the
 /// list. An element that isn't the name of an attribute is flagged A. With a bad name the directive does nothing, and is flagged A.
 pub fn psect(names: &mut ListedNames, line: &Line, start: u8) -> Effect
-    ensures { effect_seen line.now.text names.new.list.items result ≡ spec.psect line.now.text start }
+    ensures { effect_model line.now.text names.new.list.items result ≡ spec.psect line.now.text start }
 {
     match section_at(line, start) {
         SectionAt::Unnamed => selecting(names, line, start, start, blank_name()),
@@ -63,7 +63,7 @@ pub fn psect(names: &mut ListedNames, line: &Line, start: u8) -> Effect
 // Selects the section with this name. The attributes follow a comma at `end`, where the name ends. An element that isn't the name of an
 // attribute is flagged A.
 fn selecting(names: &mut ListedNames, line: &Line, start: u8, end: u8, name: Name) -> Effect
-    ensures { effect_seen line.now.text names.new.list.items result
+    ensures { effect_model line.now.text names.new.list.items result
         ≡ spec.selecting line.now.text start name (spec.attributes_at line.now.text end) }
 {
     read_attributes(names, line, end);
@@ -88,7 +88,7 @@ fn read_attributes(names: &mut ListedNames, line: &Line, end: u8)
 /// Reads a `.CSECT`, which selects the section with its name, or the blank section without a name. A new section with a name gets the
 /// attributes RW, I, GBL, REL and OVR. With a bad name the directive does nothing, and is flagged A.
 pub fn csect(names: &mut ListedNames, line: &Line, start: u8) -> Effect
-    ensures { effect_seen line.now.text names.new.list.items result ≡ spec.csect line.now.text start }
+    ensures { effect_model line.now.text names.new.list.items result ≡ spec.csect line.now.text start }
 {
     names.leave_none(start);
     match section_at(line, start) {
@@ -106,7 +106,7 @@ pub fn csect(names: &mut ListedNames, line: &Line, start: u8) -> Effect
 
 /// Reads an `.ASECT`, which selects the absolute section. Any text after its name is left over.
 pub fn asect(names: &mut ListedNames, line: &Line, start: u8) -> Effect
-    ensures { effect_seen line.now.text names.new.list.items result ≡ spec.asect line.now.text start }
+    ensures { effect_model line.now.text names.new.list.items result ≡ spec.asect line.now.text start }
 {
     names.leave_none(start);
     Effect {

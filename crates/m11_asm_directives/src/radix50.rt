@@ -6,7 +6,7 @@ ghost use Rattle.m11_asm_rules.specs.Contents.{followed_by};
 ghost use Rattle.m11_asm_rules.specs.Strings as spec;
 ghost use Rattle.m11_scan.specs.Views.{bits_of};
 ghost use Rattle.m11_asm_directives.specs.Packing.{codes_of, packing};
-ghost use Rattle.m11_asm_directives.specs.Stored.{storing_seen};
+ghost use Rattle.m11_asm_directives.specs.Stored.{storing_model};
 ghost use Rattle.m11_scan_expressions.specs.Quantities.{quantity};
 
 use crate::flags::text_flags;
@@ -21,7 +21,7 @@ use std::alloc::AllocError;
 
 /// Reads a `.RAD50`: a text whose characters and expressions are stored as RADIX-50 codes, three to a word.
 pub fn rad50(arguments: &mut Arguments, line: &Line, start: u8) -> Storing
-    ensures { storing_seen line.now.text arguments.new result ≡ spec.rad50 line.now.text start }
+    ensures { storing_model line.now.text arguments.new result ≡ spec.rad50 line.now.text start }
 {
     arguments.parts.read(line, start);
     Storing {

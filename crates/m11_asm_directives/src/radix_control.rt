@@ -6,7 +6,7 @@ ghost use Rattle.m11_scan.specs.Views.{bits_of};
 ghost use Rattle.m11_scan.specs.declared.radix.Radix.TheVariants.{Decimal};
 ghost use Rattle.m11_scan_expressions.specs.Terms.{front_of};
 ghost use Rattle.m11_asm_rules.specs.Control as spec;
-ghost use Rattle.m11_asm_directives.specs.Settings.{effect_seen};
+ghost use Rattle.m11_asm_directives.specs.Settings.{effect_model};
 ghost use Rattle.m11_scan_statements.specs.declared.spans.Span.{Span};
 ghost use Rattle.m11_asm_directives.specs.Numbers.{is_large};
 
@@ -19,7 +19,7 @@ use m11_scan_expressions::left_over;
 /// Reads a `.RADIX`, which sets the radix to 2, 8 or 10, or to 8 without an argument. The argument is a decimal number, with or without a
 /// period after it. With any other argument the directive does nothing, and is flagged A.
 pub fn radix(line: &Line, start: u8) -> Effect
-    ensures { (names : List (Option Span)) → effect_seen line.now.text names result ≡ spec.radix line.now.text start }
+    ensures { (names : List (Option Span)) → effect_model line.now.text names result ≡ spec.radix line.now.text start }
 {
     match next_token(line, start) {
         Some(token) => match radix_in(token.sort, token.text(line)) {

@@ -1,7 +1,7 @@
 //! What a directive sets. (MACRO-11 Language Reference Manual, "General assembler directives".)
 
 ghost use Rattle.std.specs.Prelude.{◌≡◌, List, Option};
-ghost use Rattle.m11_asm_directives.specs.Settings.{effect_seen};
+ghost use Rattle.m11_asm_directives.specs.Settings.{effect_model};
 ghost use Rattle.m11_asm_rules.specs.Actions as spec;
 ghost use Rattle.m11_scan_statements.specs.declared.spans.Span.{Span};
 
@@ -48,7 +48,7 @@ pub struct Effect {
 // No setting, since the argument at a column is bad or missing. The flags are A, and I for a skipped character from that column to the end
 // of the line.
 pub(crate) fn refused(line: &Line, column: u8) -> Effect
-    ensures { (names : List (Option Span)) → effect_seen line.now.text names result ≡ spec.refused line.now.text column }
+    ensures { (names : List (Option Span)) → effect_model line.now.text names result ≡ spec.refused line.now.text column }
 {
     Effect {
         setting: Setting::Nothing,

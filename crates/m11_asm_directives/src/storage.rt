@@ -4,8 +4,8 @@
 ghost use Rattle.std.specs.Prelude.{◌≡◌, ◌≤◌, ◌∷◌, length, List, IfOk};
 ghost use Rattle.m11_scan_expressions.specs.Expressions.{value};
 ghost use Rattle.m11_scan_expressions.specs.Tokens.{Expression, expression_of};
-ghost use Rattle.m11_asm_directives.specs.Stored.{storage_seen, storing_seen};
-ghost use Rattle.m11_asm_operands.specs.Elements.{elements_seen};
+ghost use Rattle.m11_asm_directives.specs.Stored.{storage_model, storing_model};
+ghost use Rattle.m11_asm_operands.specs.Elements.{elements_model};
 ghost use Rattle.m11_asm_rules.specs.Elements.{argument_flags, elements_at};
 ghost use Rattle.m11_scan_expressions.specs.LeftOvers.{left_over};
 ghost use Rattle.m11_base.specs.Devices.{Bytes};
@@ -28,7 +28,7 @@ use std::alloc::AllocError;
 
 /// Reads the list of a `.WORD`: a word for each of its elements.
 pub fn words(arguments: &mut Arguments, line: &Line, start: u8) -> Storing
-    ensures { storing_seen line.now.text arguments.new result ≡ spec.words line.now.text start }
+    ensures { storing_model line.now.text arguments.new result ≡ spec.words line.now.text start }
 {
     Storing {
         flags: read_elements(&mut arguments.elements, line, start),
@@ -38,7 +38,7 @@ pub fn words(arguments: &mut Arguments, line: &Line, start: u8) -> Storing
 
 /// Reads the list of a `.BYTE`: a byte for each of its elements.
 pub fn bytes(arguments: &mut Arguments, line: &Line, start: u8) -> Storing
-    ensures { storing_seen line.now.text arguments.new result ≡ spec.bytes line.now.text start }
+    ensures { storing_model line.now.text arguments.new result ≡ spec.bytes line.now.text start }
 {
     Storing {
         flags: read_elements(&mut arguments.elements, line, start),
@@ -48,7 +48,7 @@ pub fn bytes(arguments: &mut Arguments, line: &Line, start: u8) -> Storing
 
 // Reads the elements of a list, and returns I for characters skipped in the list, and the flags of what is left over after it.
 fn read_elements(elements: &mut Elements, line: &Line, start: u8) -> ErrorFlags
-    ensures list { elements_seen line.now.text elements.new.list.items ≡ (elements_at line.now.text start).list }
+    ensures list { elements_model line.now.text elements.new.list.items ≡ (elements_at line.now.text start).list }
     ensures flags { bits_of result ≡ argument_flags line.now.text start (elements_at line.now.text start).end }
 {
     elements.read(line, start);
@@ -57,7 +57,7 @@ fn read_elements(elements: &mut Elements, line: &Line, start: u8) -> ErrorFlags
 
 // The number of elements of a list: at most 133.
 pub(crate) fn element_count(elements: &Elements) -> u32
-    ensures count { (line : Bytes) → result ≡ length (elements_seen line elements.now.list.items) }
+    ensures count { (line : Bytes) → result ≡ length (elements_model line elements.now.list.items) }
     ensures most { result ≤ 133 }
 {
     elements.list.as_slice().len() as u32
@@ -70,7 +70,7 @@ pub(crate) fn emit_words(
     elements: &[Expr],
 ) -> Result<(), AllocError>
     ensures { IfOk result (λ _. emission.new ≡ followed_by emission.old
-        (spec.words_from line_context.now.map line_context.now.table line_context.now.location (elements_seen line_context.now.line elements.now))) }
+        (spec.words_from line_context.now.map line_context.now.table line_context.now.location (elements_model line_context.now.line elements.now))) }
 {
     let mut location = line_context.location();
     'elements: for element in elements {
@@ -103,7 +103,7 @@ pub(crate) fn emit_bytes(
     elements: &[Expr],
 ) -> Result<(), AllocError>
     ensures { IfOk result (λ _. emission.new ≡ followed_by emission.old
-        (spec.bytes_from line_context.now.map line_context.now.table line_context.now.location (elements_seen line_context.now.line elements.now))) }
+        (spec.bytes_from line_context.now.map line_context.now.table line_context.now.location (elements_model line_context.now.line elements.now))) }
 {
     let mut location = line_context.location();
     'elements: for element in elements {
@@ -143,8 +143,8 @@ fn element_value(line_context: &LineContext, location: u16, element: Expr) -> Va
 
 /// Reads a directive that has no arguments, such as `.EVEN`, and that stores or reserves `storage`. Any text after its name is left over.
 pub fn without_arguments(storage: Storage, line: &Line, start: u8) -> Storing
-    ensures { (arguments : Arguments) → storing_seen line.now.text arguments result
-        ≡ does (Store (storage_seen line.now.text arguments storage)) (left_over line.now.text start) }
+    ensures { (arguments : Arguments) → storing_model line.now.text arguments result
+        ≡ does (Store (storage_model line.now.text arguments storage)) (left_over line.now.text start) }
 {
     Storing {
         storage,
@@ -154,7 +154,7 @@ pub fn without_arguments(storage: Storage, line: &Line, start: u8) -> Storing
 
 /// Reads a `.BLKB` or `.BLKW`: the number of units to reserve, of `unit` bytes each.
 pub fn room(unit: u8, line: &Line, start: u8) -> Storing
-    ensures { (arguments : Arguments) → storing_seen line.now.text arguments result ≡ spec.room unit line.now.text start }
+    ensures { (arguments : Arguments) → storing_model line.now.text arguments result ≡ spec.room unit line.now.text start }
 {
     let count = expr_at(line, start);
     Storing {

@@ -3,7 +3,7 @@
 
 ghost use Rattle.std.specs.Prelude.{◌≡◌, ◌≤◌, IfOk, length};
 ghost use Rattle.m11_base.specs.Devices.{Bytes};
-ghost use Rattle.m11_asm_directives.specs.Stored.{storage_seen};
+ghost use Rattle.m11_asm_directives.specs.Stored.{storage_model};
 ghost use Rattle.m11_asm_rules.specs.Contents.{followed_by, nothing};
 ghost use Rattle.m11_asm_rules.specs.Effects as spec;
 ghost use Rattle.m11_asm_rules.specs.Meanings.{firm_known};
@@ -75,7 +75,7 @@ impl Arguments {
 impl Storage {
     /// Whether the storage needs an even location: it holds words, or reserves units of an even number of bytes.
     pub fn is_even(self) -> bool
-        ensures { (line : Bytes) (arguments : Arguments) → result ≡ spec.is_even (storage_seen line arguments self) }
+        ensures { (line : Bytes) (arguments : Arguments) → result ≡ spec.is_even (storage_model line arguments self) }
     {
         match self {
             Storage::WordList | Storage::PackedText | Storage::LimitWords => true,
@@ -86,7 +86,7 @@ impl Storage {
 
     /// The size of the storage in bytes at a location: at most 16,711,425. The size of reserved room depends on firm names alone.
     pub fn size(self, line: &Line, arguments: &Arguments, table: &Table, here: u16) -> u32
-        ensures size { result ≡ spec.size table.now here (storage_seen line.now.text arguments.now self) }
+        ensures size { result ≡ spec.size table.now here (storage_model line.now.text arguments.now self) }
         ensures most { result ≤ 16711425 }
     {
         match self {
@@ -111,7 +111,7 @@ impl Storage {
         arguments: &Arguments,
     ) -> Result<(), AllocError>
         ensures { IfOk result (λ _. emission.new ≡ followed_by emission.old (spec.stored line_context.now.map line_context.now.table
-            line_context.now.location (storage_seen line_context.now.line arguments.now self))) }
+            line_context.now.location (storage_model line_context.now.line arguments.now self))) }
     {
         let elements = arguments.elements.list.as_slice();
         let parts = arguments.parts.list.as_slice();

@@ -4,7 +4,7 @@ ghost use Rattle.std.specs.Prelude.{◌≡◌, ◌≤◌, ◌∷◌, true, false
 ghost use Rattle.m11_asm_rules.specs.Contents as contents;
 ghost use Rattle.m11_asm_rules.specs.Contents.{followed_by};
 ghost use Rattle.m11_asm_rules.specs.Strings as spec;
-ghost use Rattle.m11_asm_directives.specs.Stored.{storing_seen};
+ghost use Rattle.m11_asm_directives.specs.Stored.{storing_model};
 ghost use Rattle.m11_asm_rules.specs.Actions.{TextPart};
 
 use crate::flags::text_flags;
@@ -18,20 +18,20 @@ use std::alloc::AllocError;
 
 /// Reads an `.ASCII`: a text whose characters and expressions are stored as bytes.
 pub fn ascii(arguments: &mut Arguments, line: &Line, start: u8) -> Storing
-    ensures { storing_seen line.now.text arguments.new result ≡ spec.text false line.now.text start }
+    ensures { storing_model line.now.text arguments.new result ≡ spec.text false line.now.text start }
 {
     text(arguments, line, start, false)
 }
 
 /// Reads an `.ASCIZ`: a text whose characters and expressions are stored as bytes, with a zero byte after them.
 pub fn asciz(arguments: &mut Arguments, line: &Line, start: u8) -> Storing
-    ensures { storing_seen line.now.text arguments.new result ≡ spec.text true line.now.text start }
+    ensures { storing_model line.now.text arguments.new result ≡ spec.text true line.now.text start }
 {
     text(arguments, line, start, true)
 }
 
 fn text(arguments: &mut Arguments, line: &Line, start: u8, is_ended: bool) -> Storing
-    ensures { storing_seen line.now.text arguments.new result ≡ spec.text is_ended line.now.text start }
+    ensures { storing_model line.now.text arguments.new result ≡ spec.text is_ended line.now.text start }
 {
     arguments.parts.read(line, start);
     Storing {

@@ -4,7 +4,7 @@ ghost use Rattle.std.specs.Prelude.{◌≡◌, List, Option};
 ghost use Rattle.m11_scan.specs.Cutting.{tokens_from};
 ghost use Rattle.m11_scan_statements.specs.declared.spans.Span.{Span};
 ghost use Rattle.m11_asm_rules.specs.Exports as spec;
-ghost use Rattle.m11_asm_directives.specs.Settings.{effect_seen};
+ghost use Rattle.m11_asm_directives.specs.Settings.{effect_model};
 
 use crate::settings::{Effect, Setting, refused};
 use m11_base::Name;
@@ -14,7 +14,7 @@ use m11_scan_expressions::flags_before;
 /// Reads a `.TITLE`: its name becomes the title of the module, and any text may follow it. Without a name it does nothing, and is flagged
 /// A.
 pub fn title(line: &Line, start: u8) -> Effect
-    ensures { (names : List (Option Span)) → effect_seen line.now.text names result ≡ spec.title line.now.text start }
+    ensures { (names : List (Option Span)) → effect_model line.now.text names result ≡ spec.title line.now.text start }
 {
     match title_at(line, start) {
         Some(name) => Effect {

@@ -214,12 +214,12 @@ bare_actual line start = whole_actual Bare start (start + prefix_len is_bare (dr
 
 -- the actual that begins at a column, from the characters that the line has there and after it
 abbrev actual_in : List ℕ → ℕ → Bool → List ℕ → Option Actual
-actual_in line start gives_digits text = elim text [
+actual_in line start allows_digits text = elim text [
   | [] ↦ None
   | byte ∷ more ↦
       if byte == 0o73 then None
       else (if byte == 0o74 then Some (bracketed_actual line (start + 1))
-      else (if byte == 0o134 && gives_digits then Some (digits_actual line (start + 1)) else Some (bare_actual line start)))
+      else (if byte == 0o134 && allows_digits then Some (digits_actual line (start + 1)) else Some (bare_actual line start)))
 ]
 
 abbrev after_blanks : List ℕ → ℕ → ℕ

@@ -2,7 +2,7 @@
 -- calls" and ".GLOBL directive".)
 use Rattle.std.specs.Prelude.{◌≡◌, ℕ, true, false, List, [], ◌∷◌, Option, Some, None}
 use Rattle.std.specs.Int.RustNames.{bit_or}
-use Rattle.m11_unfold_rules.specs.Actuals.{ActualTexts, followed_by, given_by, nothing_given}
+use Rattle.m11_unfold_rules.specs.Actuals.{ActualTexts, followed_by, given_by, no_actual_texts}
 use Rattle.m11_scan_expressions.specs.Expressions.{KnownSymbols}
 use Rattle.m11_unfold_rules.specs.Headers.{listed_at}
 use Rattle.m11_unfold_rules.specs.Headers.NextListed.{Ending, Formally}
@@ -28,7 +28,7 @@ pub data AreFormals (line : Bytes) : ℕ → List MacroFormal → ℕ → Type 0
 -- these are the actuals that follow a column, with their texts and the remarks on them; between two of them are blanks, a comma or both
 pub data AreActuals (known : KnownSymbols) (line : Bytes) : ℕ → ActualTexts → Type 0 where
   -- without a next actual the list ends
-  NoActual : (column : ℕ) → next_actual line column true ≡ None → AreActuals known line column nothing_given
+  NoActual : (column : ℕ) → next_actual line column true ≡ None → AreActuals known line column no_actual_texts
   -- further actuals follow the separator after an actual
   OneActual : (column : ℕ) (actual : Actual) (more : ActualTexts) → next_actual line column true ≡ Some actual
       → AreActuals known line (separator_at line actual.end).end more

@@ -4,7 +4,7 @@ use Rattle.std.specs.Prelude.{◌≡◌, Bool, true}
 use Rattle.m11_base.specs.Devices.{Bytes}
 use Rattle.m11_scan.specs.Views.{bits_of}
 use Rattle.m11_asm_operands.specs.ListedOperations as operations
-use Rattle.m11_asm_operands.specs.Reads.{fields_seen}
+use Rattle.m11_asm_operands.specs.Reads.{fields_model}
 use Rattle.m11_asm_rules.specs.Actions as actions
 use Rattle.m11_asm_rules.specs.Changes.{changed}
 use Rattle.m11_asm_rules.specs.Fields.{Fields, no_fields}
@@ -13,31 +13,31 @@ use Rattle.m11_asm_rules.specs.Lines.{change_of}
 use Rattle.m11_asm_rules.specs.Meanings.{Map}
 use Rattle.m11_asm_rules.specs.Tables.{Table, firm_table}
 use Rattle.m11_scan_expressions.specs.Tokens.{expression_of}
-use Rattle.m11_asm_directives.specs.Settings.{setting_seen}
-use Rattle.m11_asm_directives.specs.Stored.{storage_seen}
+use Rattle.m11_asm_directives.specs.Settings.{setting_model}
+use Rattle.m11_asm_directives.specs.Stored.{storage_model}
 use Rattle.m11_asm_directives.specs.declared.stored.Arguments.{Arguments}
 use Rattle.m11_asm_lines.specs.declared.actions.Action.{Action}
 use Rattle.m11_asm_lines.specs.declared.actions.Action.TheVariants.{NoAction, Assign, SetCounter, Set, Store, Operate}
 use Rattle.m11_asm_lines.specs.declared.actions.Reading.{Reading}
 use Rattle.m11_asm_lines.specs.declared.actions.Operation.{Operation}
 
-abbrev pub action_seen : Bytes → Arguments → Action → actions.Action
-action_seen line arguments NoAction = actions.NoAction
-action_seen line arguments (Assign name is_global place) = actions.Assign name is_global (expression_of line place)
-action_seen line arguments (SetCounter place) = actions.SetCounter (expression_of line place)
-action_seen line arguments (Set setting) = setting_seen line arguments.names.list.items setting
-action_seen line arguments (Store storage) = actions.Store (storage_seen line arguments storage)
-action_seen line arguments (Operate operation start) = actions.Operate operation start
+abbrev pub action_model : Bytes → Arguments → Action → actions.Action
+action_model line arguments NoAction = actions.NoAction
+action_model line arguments (Assign name is_global place) = actions.Assign name is_global (expression_of line place)
+action_model line arguments (SetCounter place) = actions.SetCounter (expression_of line place)
+action_model line arguments (Set setting) = setting_model line arguments.names.list.items setting
+action_model line arguments (Store storage) = actions.Store (storage_model line arguments storage)
+action_model line arguments (Operate operation start) = actions.Operate operation start
 
-abbrev pub reading_seen : Bytes → Arguments → Reading → actions.Operation
-reading_seen line arguments reading = actions.does (action_seen line arguments reading.action) (bits_of reading.flags)
+abbrev pub reading_model : Bytes → Arguments → Reading → actions.Operation
+reading_model line arguments reading = actions.does (action_model line arguments reading.action) (bits_of reading.flags)
 
--- what an operation does; `operation_seen` adds its flags
+-- what an operation does; `operation_model` adds its flags
 abbrev pub action_in : Bytes → Operation → actions.Action
-action_in line operation = action_seen line operation.arguments operation.action
+action_in line operation = action_model line operation.arguments operation.action
 
-abbrev pub operation_seen : Bytes → Operation → actions.Operation
-operation_seen line operation = actions.does (action_in line operation) (bits_of operation.flags)
+abbrev pub operation_model : Bytes → Operation → actions.Operation
+operation_model line operation = actions.does (action_in line operation) (bits_of operation.flags)
 
 -- whether an instruction's operation is in the list of instructions; true of any other action
 abbrev pub is_listed : Action → Bool
@@ -53,7 +53,7 @@ action_fields table line other = no_fields 0
 -- action under a table
 pub record IsRead (table : Table) (line : Bytes) (operation : Operation) : Type 0 where
   pub listed : is_listed operation.action ≡ true
-  pub fields : fields_seen line operation.fields ≡ action_fields table line operation.action
+  pub fields : fields_model line operation.fields ≡ action_fields table line operation.action
 
 -- ---- the table after an action, from the table after the labels of its line
 

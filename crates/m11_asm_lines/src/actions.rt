@@ -4,12 +4,12 @@ ghost use Rattle.std.specs.Prelude.{◌≡◌, IsTrue};
 ghost use Rattle.m11_scan.specs.Views.{bits_of};
 ghost use Rattle.m11_scan_expressions.specs.Tokens.{expression};
 ghost use Rattle.m11_scan_statements.specs.Statements.{body_of};
-ghost use Rattle.m11_asm_operands.specs.Reads.{fields_seen};
+ghost use Rattle.m11_asm_operands.specs.Reads.{fields_model};
 ghost use Rattle.m11_asm_rules.specs.Actions.{Assign, does};
 ghost use Rattle.m11_asm_rules.specs.Assigning.{after_expression, target};
 ghost use Rattle.m11_asm_rules.specs.Operations as spec;
 ghost use Rattle.m11_asm_lines.specs.Actions as actions;
-ghost use Rattle.m11_asm_lines.specs.Actions.{IsRead, is_listed, operation_seen, reading_seen};
+ghost use Rattle.m11_asm_lines.specs.Actions.{IsRead, is_listed, operation_model, reading_model};
 ghost use Rattle.m11_asm_lines.specs.declared.actions.Action.TheVariants.{NoAction, Set, Store};
 
 use m11_asm_directives::{
@@ -87,7 +87,7 @@ impl Operation {
         body: Body,
     )
         requires { body ≡ body_of line.now.text }
-        ensures operation { operation_seen line.now.text self.new ≡ spec.operation is_own actuals line.now.text }
+        ensures operation { operation_model line.now.text self.new ≡ spec.operation is_own actuals line.now.text }
         ensures read { IsRead table.now line.now.text self.new }
     {
         let reading = read_after_labels(&mut self.arguments, line, is_own, actuals, body);
@@ -106,7 +106,7 @@ fn read_after_labels(
     body: Body,
 ) -> Reading
     requires { body ≡ body_of line.now.text }
-    ensures reading { reading_seen line.now.text arguments.new result ≡ spec.operation is_own actuals line.now.text }
+    ensures reading { reading_model line.now.text arguments.new result ≡ spec.operation is_own actuals line.now.text }
     ensures listed { IsTrue (is_listed result.action) }
 {
     if is_own {
@@ -151,7 +151,7 @@ fn stored(storing: Storing) -> Reading
 
 // Reads the fields of an action, with the table after the labels of its line. Only an instruction has fields.
 fn read_action_fields(fields: &mut Fields, table: &Table, line: &Line, action: &Action)
-    ensures { fields_seen line.now.text fields.new ≡ actions.action_fields table.now line.now.text action.now }
+    ensures { fields_model line.now.text fields.new ≡ actions.action_fields table.now line.now.text action.now }
 {
     match *action {
         Action::Operate(operation, start) => { read_fields(fields, table, line, start, operation) }
@@ -161,7 +161,7 @@ fn read_action_fields(fields: &mut Fields, table: &Table, line: &Line, action: &
 
 // Reads the text after the labels, which is of the kind `body`.
 fn read_body(arguments: &mut Arguments, line: &Line, actuals: Option<u16>, body: Body) -> Reading
-    ensures reading { reading_seen line.now.text arguments.new result ≡ spec.operation_of actuals line.now.text body }
+    ensures reading { reading_model line.now.text arguments.new result ≡ spec.operation_of actuals line.now.text body }
     ensures listed { IsTrue (is_listed result.action) }
 {
     match body {
@@ -181,7 +181,7 @@ fn read_body(arguments: &mut Arguments, line: &Line, actuals: Option<u16>, body:
 
 // Reads an assignment to a name, flagged Q if a token follows its expression.
 fn assigning(line: &Line, made: Assignment) -> Reading
-    ensures reading { (arguments : Arguments) → reading_seen line.now.text arguments result
+    ensures reading { (arguments : Arguments) → reading_model line.now.text arguments result
         ≡ does (Assign (target line.now.text made.name) made.is_global (expression line.now.text made.value))
         (after_expression line.now.text made.value) }
     ensures listed { IsTrue (is_listed result.action) }
@@ -196,7 +196,7 @@ fn assigning(line: &Line, made: Assignment) -> Reading
 // Reads a text that begins with a name: a directive and its arguments; the name of an instruction, without its operands; or else the
 // arguments of `.WORD`.
 fn operating(arguments: &mut Arguments, line: &Line, actuals: Option<u16>, name: Span) -> Reading
-    ensures reading { reading_seen line.now.text arguments.new result
+    ensures reading { reading_model line.now.text arguments.new result
         ≡ spec.operation_of actuals line.now.text (Body.Operate name) }
     ensures listed { IsTrue (is_listed result.action) }
 {
@@ -219,7 +219,7 @@ fn directing(
     start: u8,
     directive: Directive,
 ) -> Reading
-    ensures reading { reading_seen line.now.text arguments.new result ≡ spec.directive actuals line.now.text start directive }
+    ensures reading { reading_model line.now.text arguments.new result ≡ spec.directive actuals line.now.text start directive }
     ensures listed { IsTrue (is_listed result.action) }
 {
     match directive {

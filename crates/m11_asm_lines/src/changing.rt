@@ -5,10 +5,10 @@ ghost use Rattle.std.specs.Prelude.{◌≡◌, ◌≤◌, IfOk, IfErr};
 ghost use Rattle.std.specs.Option.{option_to_list};
 ghost use Rattle.m11_asm_faults.specs.declared.fault.AsmFault.TheVariants.{NoMemory};
 ghost use Rattle.m11_scan_expressions.specs.Tokens.{expression_of};
-ghost use Rattle.m11_asm_operands.specs.Reads.{fields_seen};
+ghost use Rattle.m11_asm_operands.specs.Reads.{fields_model};
 ghost use Rattle.m11_asm_directives.specs.Changes.{moves};
-ghost use Rattle.m11_asm_directives.specs.Settings.{setting_seen};
-ghost use Rattle.m11_asm_directives.specs.Stored.{storage_seen};
+ghost use Rattle.m11_asm_directives.specs.Settings.{setting_model};
+ghost use Rattle.m11_asm_directives.specs.Stored.{storage_model};
 ghost use Rattle.m11_asm_rules.specs.Actions.{Operate, SetCounter, Store};
 ghost use Rattle.m11_asm_rules.specs.Changes.{changed, numbered, with_globals};
 ghost use Rattle.m11_asm_rules.specs.Elements.{names_of, texts_of};
@@ -90,7 +90,7 @@ impl Pass {
     // Moves the counter past what a directive stores or reserves, and past the byte skipped before it, if there is one.
     fn step_past(&mut self, line: &Line, storage: Storage, arguments: &Arguments)
         ensures { (map : LineMap) → self.new
-            ≡ after_action map line.now.text (Store (storage_seen line.now.text arguments.now storage)) self.old }
+            ≡ after_action map line.now.text (Store (storage_model line.now.text arguments.now storage)) self.old }
     {
         let steps = storage_steps(&self.table, line, storage, arguments);
         self.count(Move::Steps(steps));
@@ -115,11 +115,11 @@ impl Pass {
         setting: Setting,
     ) -> Result<Option<Item>, AsmFault>
         ensures changes { (map : LineMap) → IfOk result
-            (λ _. self.new ≡ after_action map line.now.text (setting_seen line.now.text names.now setting) self.old) }
+            (λ _. self.new ≡ after_action map line.now.text (setting_model line.now.text names.now setting) self.old) }
         ensures shows { (map : LineMap) → IfOk result
-            (λ item. option_to_list item ≡ action_items map self.old (setting_seen line.now.text names.now setting)) }
+            (λ item. option_to_list item ≡ action_items map self.old (setting_model line.now.text names.now setting)) }
         ensures refuses { (map : LineMap) → IfErr result
-            (λ fault. Overfills fault (after_action map line.now.text (setting_seen line.now.text names.now setting) self.old)) }
+            (λ fault. Overfills fault (after_action map line.now.text (setting_model line.now.text names.now setting) self.old)) }
     {
         match setting {
             Setting::Select(name, attributes) => {
@@ -161,7 +161,7 @@ impl Pass {
     /// `start`, and `fields` are its fields. This does what `apply_action` does for an instruction.
     // speed: without a result, which would pass through memory.
     pub fn step_over(&mut self, line: &Line, start: u8, operation: Op, fields: &Fields)
-        requires { fields_seen line.now.text fields.now ≡ line_fields self.old line.now.text start operation }
+        requires { fields_model line.now.text fields.now ≡ line_fields self.old line.now.text start operation }
         ensures { (map : LineMap) → self.new ≡ after_action map line.now.text (Operate operation start) self.old }
     {
         let steps = instruction_steps(&self.table, line, start, operation, fields);

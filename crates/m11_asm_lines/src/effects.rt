@@ -2,9 +2,9 @@
 //! storage directives" and "Location counter control directives"; PDP-11/40 Processor Handbook, "Instruction set".)
 
 ghost use Rattle.std.specs.Prelude.{◌≡◌, IfOk, IsTrue};
-ghost use Rattle.m11_asm_directives.specs.Stored.{storage_seen};
+ghost use Rattle.m11_asm_directives.specs.Stored.{storage_model};
 ghost use Rattle.m11_asm_operands.specs.ListedOperations.{is_listed};
-ghost use Rattle.m11_asm_operands.specs.Reads.{fields_seen};
+ghost use Rattle.m11_asm_operands.specs.Reads.{fields_model};
 ghost use Rattle.m11_asm_rules.specs.Changes.{Counts};
 ghost use Rattle.m11_asm_rules.specs.Contents.{followed_by};
 ghost use Rattle.m11_asm_rules.specs.Effects as spec;
@@ -25,7 +25,7 @@ use std::alloc::AllocError;
 /// if any. It depends on firm names alone.
 #[tactic(auto, using(crate::proofs::FirmEffects::change_firm))]
 pub fn storage_steps(table: &Table, line: &Line, storage: Storage, arguments: &Arguments) -> u32
-    ensures { Counts (Steps result) ≡ spec.storage_change (firm_table table.now) (storage_seen line.now.text arguments.now storage) }
+    ensures { Counts (Steps result) ≡ spec.storage_change (firm_table table.now) (storage_model line.now.text arguments.now storage) }
 {
     let is_even = storage.is_even();
     let passed = gap(is_even, table.location());
@@ -42,7 +42,7 @@ pub fn instruction_steps(
     operation: Op,
     fields: &Fields,
 ) -> u32
-    requires { fields_seen line.now.text fields.now ≡ line_fields table.now line.now.text start operation }
+    requires { fields_model line.now.text fields.now ≡ line_fields table.now line.now.text start operation }
     ensures { Counts (Steps result) ≡ spec.instruction_change (firm_table table.now) line.now.text operation start }
 {
     let passed = gap(true, table.location());
@@ -61,7 +61,7 @@ pub fn emit_storage(
     arguments: &Arguments,
 ) -> Result<(), AllocError>
     ensures { IfOk result (λ _. emission.new ≡ followed_by emission.old
-        (spec.storage_emission map.now table.now (storage_seen line.now.text arguments.now storage))) }
+        (spec.storage_emission map.now table.now (storage_model line.now.text arguments.now storage))) }
 {
     let is_even = storage.is_even();
     emission.add_flags(gap_flags(is_even, table.location()));
@@ -81,7 +81,7 @@ pub fn emit_operation(
     fields: &Fields,
 ) -> Result<(), AllocError>
     requires listed { IsTrue (is_listed operation) }
-    requires fields { fields_seen line.now.text fields.now ≡ line_fields table.now line.now.text start operation }
+    requires fields { fields_model line.now.text fields.now ≡ line_fields table.now line.now.text start operation }
     ensures { IfOk result (λ _. emission.new ≡ followed_by emission.old
         (spec.instruction_emission map.now table.now line.now.text operation start)) }
 {

@@ -2,7 +2,7 @@
 
 ghost use Rattle.std.specs.Prelude.{◌≡◌, ◌≤◌, IfOk};
 ghost use Rattle.m11_asm_rules.specs.Contents.{followed_by, nothing};
-ghost use Rattle.m11_asm_directives.specs.Settings.{setting_seen};
+ghost use Rattle.m11_asm_directives.specs.Settings.{setting_model};
 ghost use Rattle.m11_asm_rules.specs.Lines as spec;
 ghost use Rattle.m11_asm_lines.specs.Actions.{IsRead, action_in};
 ghost use Rattle.m11_asm_lines.specs.Lines.{flags_from};
@@ -71,7 +71,7 @@ fn setting_flags(
     setting: Setting,
 ) -> ErrorFlags
     ensures { nothing (bits_of result)
-        ≡ spec.emission_by map.now table.now line.now.text (setting_seen line.now.text names.now setting) }
+        ≡ spec.emission_by map.now table.now line.now.text (setting_model line.now.text names.now setting) }
 {
     match setting {
         Setting::Select(name, _) => differing_flags(&table.section_named(name), line, names),

@@ -2,7 +2,7 @@
 
 ghost use Rattle.std.specs.Prelude.{◌≡◌, ◌≤◌, IfOk, IfErr, length};
 ghost use Rattle.m11_asm_faults.specs.declared.fault.AsmFault.TheVariants.{NoMemory};
-ghost use Rattle.m11_asm_directives.specs.Changes.{move_seen};
+ghost use Rattle.m11_asm_directives.specs.Changes.{move_model};
 ghost use Rattle.m11_asm_rules.specs.Changes.{with_move, with_section, with_modes, with_value};
 ghost use Rattle.m11_asm_rules.specs.Labels.{with_block, with_definition, with_doubly_defined, with_global};
 ghost use Rattle.m11_asm_rules.specs.Limits.{local_count, most_defined_names, most_local_symbols, most_sections, name_count};
@@ -184,7 +184,7 @@ impl Pass {
 
     // Moves the counter of the current section on, or sets it.
     pub(crate) fn count(&mut self, step: Move)
-        ensures { self.new ≡ with_move (move_seen step) self.old }
+        ensures { self.new ≡ with_move (move_model step) self.old }
     {
         match step {
             Move::Steps(size) => self.table.step(size),

@@ -5,10 +5,10 @@ ghost use Rattle.std.specs.Prelude.{◌≡◌, ◌≤◌, ◌++◌, ℕ, length,
 ghost use Rattle.std.specs.List.{flat_map};
 ghost use Rattle.m11_scan_expressions.specs.Tokens.{expression_of};
 ghost use Rattle.m11_scan_expressions.specs.declared.exprs.Expr.TheVariants.{Term};
-ghost use Rattle.m11_asm_directives.specs.Settings.{setting_seen};
-ghost use Rattle.m11_asm_directives.specs.Stored.{storage_seen};
+ghost use Rattle.m11_asm_directives.specs.Settings.{setting_model};
+ghost use Rattle.m11_asm_directives.specs.Stored.{storage_model};
 ghost use Rattle.m11_asm_rules.specs.Strings.{content_in};
-ghost use Rattle.m11_asm_operands.specs.Reads.{field_seen, fields_seen, form_seen};
+ghost use Rattle.m11_asm_operands.specs.Reads.{field_model, fields_model, form_model};
 ghost use Rattle.m11_asm_rules.specs.declared.meanings.Context.TheVariants.{LocalOnly};
 ghost use Rattle.m11_asm_rules.specs.Elements.{names_of, texts_of};
 ghost use Rattle.m11_asm_rules.specs.Limits.{most_names};
@@ -79,7 +79,7 @@ impl UsedSymbols {
     #[inline(always)]
     pub fn add_action(&mut self, line: &Line, operation: &Operation) -> Result<(), AsmFault>
         ensures { (table : LineTable)
-            → fields_seen line.now.text operation.now.fields ≡ action_fields table line.now.text operation.now.action
+            → fields_model line.now.text operation.now.fields ≡ action_fields table line.now.text operation.now.action
             → Adds (spec.action_uses table line.now.text (action_in line.now.text operation.now)) self.old self.new result }
     {
         match operation.action {
@@ -105,7 +105,7 @@ impl UsedSymbols {
         setting: Setting,
     ) -> Result<(), AsmFault>
         ensures { (table : LineTable)
-            → Adds (spec.action_uses table line.now.text (setting_seen line.now.text names.now setting)) self.old self.new result }
+            → Adds (spec.action_uses table line.now.text (setting_model line.now.text names.now setting)) self.old self.new result }
     {
         match setting {
             Setting::Export(_) => self.add_names(line, names),
@@ -130,7 +130,7 @@ impl UsedSymbols {
         storage: Storage,
         arguments: &Arguments,
     ) -> Result<(), AsmFault>
-        ensures { Adds (spec.storage_uses (storage_seen line.now.text arguments.now storage)) self.old self.new result }
+        ensures { Adds (spec.storage_uses (storage_model line.now.text arguments.now storage)) self.old self.new result }
     {
         let elements = arguments.elements.list.as_slice();
         let parts = arguments.parts.list.as_slice();
@@ -190,14 +190,14 @@ impl UsedSymbols {
 
 impl UsedSymbols {
     fn add_fields(&mut self, line: &Line, fields: &Fields) -> Result<(), AsmFault>
-        ensures { Adds (spec.uses_of_fields (fields_seen line.now.text fields.now)) self.old self.new result }
+        ensures { Adds (spec.uses_of_fields (fields_model line.now.text fields.now)) self.old self.new result }
     {
         self.add_field(line, fields.first)?;
         self.add_field(line, fields.second)
     }
 
     fn add_field(&mut self, line: &Line, field: Field<Expr>) -> Result<(), AsmFault>
-        ensures { Adds (spec.field_uses (field_seen line.now.text field)) self.old self.new result }
+        ensures { Adds (spec.field_uses (field_model line.now.text field)) self.old self.new result }
     {
         match field {
             Field::Operand(form) => self.add_form(line, form),
@@ -211,7 +211,7 @@ impl UsedSymbols {
     // Adds the symbols of an operand. Its word after the code word may refer to another object; its register may not. Errors are those of
     // `add_all`.
     fn add_form(&mut self, line: &Line, form: Form<Expr>) -> Result<(), AsmFault>
-        ensures { Adds (spec.form_uses (form_seen line.now.text form)) self.old self.new result }
+        ensures { Adds (spec.form_uses (form_model line.now.text form)) self.old self.new result }
     {
         match form {
             Form::Absent => Ok(()),

@@ -7,7 +7,7 @@ use Rattle.m11_scan.specs.declared.cutting.Token.{Token}
 use Rattle.m11_scan_expressions.specs.Tokens.{Expression, expression, expression_of}
 use Rattle.m11_scan_expressions.specs.declared.exprs.Expr.{Expr}
 use Rattle.m11_unfold_rules.specs.Immediate.{after_comma, column_after_comma}
-use Rattle.m11_asm_operands.specs.Elements.{elements_seen, end_of_comma}
+use Rattle.m11_asm_operands.specs.Elements.{elements_model, end_of_comma}
 use Rattle.std.proofs.lemmas.List.{append_assoc, map-append}
 use Rattle.m11_scan_statements.specs.declared.spans.Span.{Span}
 use Rattle.m11_asm_rules.specs.Elements.{ListAt, elements_by, elements_within, item_before, names_by, names_within}
@@ -26,16 +26,16 @@ module _ (line : List ℕ) (left next begin : ℕ) (is : left ≡ suc next) (e :
       ∙ ap (λ (t : Expression). elements_by (λ n. elements_within next line n) t (expression_end line begin) found) (sym same)
 
 pub with_one : (line : List ℕ) (before new : List Expr) (e : Expr) (more : List Expression) → new ≡ before ++ e ∷ []
-    → elements_seen line new ++ more ≡ elements_seen line before ++ (expression_of line e ∷ more)
+    → elements_model line new ++ more ≡ elements_model line before ++ (expression_of line e ∷ more)
 with_one line before new e more is =
-    ap (λ (l : List Expr). elements_seen line l ++ more) is
+    ap (λ (l : List Expr). elements_model line l ++ more) is
     ∙ ap (λ (l : List Expression). l ++ more) (map-append (expression_of line) before (e ∷ []))
-    ∙ append_assoc (elements_seen line before) (expression_of line e ∷ []) more
+    ∙ append_assoc (elements_model line before) (expression_of line e ∷ []) more
 
 pub without_more : (line : List ℕ) (before new : List Expr) (e : Expr) → new ≡ before ++ e ∷ []
-    → elements_seen line new ≡ elements_seen line before ++ (expression_of line e ∷ [])
+    → elements_model line new ≡ elements_model line before ++ (expression_of line e ∷ [])
 without_more line before new e is =
-    ap (λ (l : List Expr). elements_seen line l) is ∙ map-append (expression_of line) before (e ∷ [])
+    ap (λ (l : List Expr). elements_model line l) is ∙ map-append (expression_of line) before (e ∷ [])
 
 -- the comma after an expression, by the next token
 comma_next : (line : List ℕ) (end : ℕ) (next : Option Token) → MatchOption next (tokens_from line end ≡ [])

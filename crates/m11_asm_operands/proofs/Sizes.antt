@@ -9,17 +9,17 @@ use Rattle.m11_asm_rules.specs.declared.fields.Field.{Field}
 use Rattle.m11_asm_rules.specs.declared.fields.Field.TheVariants.{Operand, Register, Target, Number, Missing}
 use Rattle.m11_asm_rules.specs.declared.operands.Form.{Form}
 use Rattle.m11_asm_rules.specs.declared.operands.Form.TheVariants.{Absent, InRegister, Indexed, Unindexed, AfterCounter}
-use Rattle.m11_asm_operands.specs.Reads.{bytes_in, field_seen, fields_seen, form_seen}
+use Rattle.m11_asm_operands.specs.Reads.{bytes_in, field_model, fields_model, form_model}
 use Rattle.m11_asm_operands.specs.declared.fields.Fields.{Fields}
 
-pub words_seen : (line : Bytes) (form : Form Expr) → words_of form ≡ words_of (form_seen line form)
+pub words_seen : (line : Bytes) (form : Form Expr) → words_of form ≡ words_of (form_model line form)
 words_seen line Absent = refl
 words_seen line (InRegister kind register) = refl
 words_seen line (Indexed kind register index) = refl
 words_seen line (Unindexed register) = refl
 words_seen line (AfterCounter kind number) = refl
 
-bytes_seen : (line : Bytes) (field : Field Expr) → bytes_in field ≡ bytes_in (field_seen line field)
+bytes_seen : (line : Bytes) (field : Field Expr) → bytes_in field ≡ bytes_in (field_model line field)
 bytes_seen line (Operand form) = ap (λ (n : ℕ). n * 2) (words_seen line form)
 bytes_seen line (Register register) = refl
 bytes_seen line (Target target) = refl
@@ -43,9 +43,9 @@ of_both (Target target) second = of_second second
 of_both (Number number) second = of_second second
 of_both Missing second = of_second second
 
-pub size_seen : (line : Bytes) (fields : Fields)
-    → 2 + bytes_in fields.first + bytes_in fields.second ≡ instruction_size (forms_of (fields_seen line fields))
-size_seen line fields =
+pub size_of_model : (line : Bytes) (fields : Fields)
+    → 2 + bytes_in fields.first + bytes_in fields.second ≡ instruction_size (forms_of (fields_model line fields))
+size_of_model line fields =
     ap (λ (n : ℕ). 2 + n + bytes_in fields.second) (bytes_seen line fields.first)
-    ∙ ap (λ (n : ℕ). 2 + bytes_in (field_seen line fields.first) + n) (bytes_seen line fields.second)
-    ∙ of_both (field_seen line fields.first) (field_seen line fields.second)
+    ∙ ap (λ (n : ℕ). 2 + bytes_in (field_model line fields.first) + n) (bytes_seen line fields.second)
+    ∙ of_both (field_model line fields.first) (field_model line fields.second)

@@ -9,12 +9,12 @@ use Rattle.m11_scan_statements.specs.Listed.{is_comma}
 use Rattle.m11_asm_rules.specs.Elements.{elements_at}
 use Rattle.m11_asm_operands.specs.declared.elements.Elements as code
 
-abbrev pub elements_seen : Bytes → List Expr → List Expression
-elements_seen line elements = map (expression_of line) elements
+abbrev pub elements_model : Bytes → List Expr → List Expression
+elements_model line elements = map (expression_of line) elements
 
 -- the elements that were read, and the column after them, are those of the list at a column
 pub record AreElements (line : Bytes) (start : ℕ) (read : code.Elements) : Type 0 where
-  pub list : elements_seen line read.list.items ≡ (elements_at line start).list
+  pub list : elements_model line read.list.items ≡ (elements_at line start).list
   pub end : read.end ≡ (elements_at line start).end
 
 -- the column after a token that is a comma; None for any other token, and without a token

@@ -19,39 +19,39 @@ use Rattle.m11_asm_operands.specs.declared.fields.FieldAt.{FieldAt}
 use Rattle.m11_asm_operands.specs.declared.fields.Fields.{Fields}
 use Rattle.m11_asm_operands.specs.declared.operands.OperandAt.{OperandAt}
 
-abbrev pub written_seen : Bytes → WrittenOperand Expr → WrittenOperand Expression
-written_seen line Absent = Absent
-written_seen line (Plain is_deferred place) = Plain is_deferred (expression_of line place)
-written_seen line (Pointed is_deferred register) = Pointed is_deferred (expression_of line register)
-written_seen line (Stepped is_deferred register) = Stepped is_deferred (expression_of line register)
-written_seen line (Before is_deferred register) = Before is_deferred (expression_of line register)
-written_seen line (Indexed is_deferred index register) = Indexed is_deferred (expression_of line index) (expression_of line register)
-written_seen line (Immediate is_deferred number) = Immediate is_deferred (expression_of line number)
+abbrev pub written_operand_model : Bytes → WrittenOperand Expr → WrittenOperand Expression
+written_operand_model line Absent = Absent
+written_operand_model line (Plain is_deferred place) = Plain is_deferred (expression_of line place)
+written_operand_model line (Pointed is_deferred register) = Pointed is_deferred (expression_of line register)
+written_operand_model line (Stepped is_deferred register) = Stepped is_deferred (expression_of line register)
+written_operand_model line (Before is_deferred register) = Before is_deferred (expression_of line register)
+written_operand_model line (Indexed is_deferred index register) = Indexed is_deferred (expression_of line index) (expression_of line register)
+written_operand_model line (Immediate is_deferred number) = Immediate is_deferred (expression_of line number)
 
-abbrev pub read_seen : Bytes → OperandAt → Read
-read_seen line read = record { operand = written_seen line read.operand; end = read.end; flags = bits_of read.flags }
+abbrev pub operand_at_model : Bytes → OperandAt → Read
+operand_at_model line read = record { operand = written_operand_model line read.operand; end = read.end; flags = bits_of read.flags }
 
-abbrev pub form_seen : Bytes → Form Expr → Form Expression
-form_seen line form.Absent = form.Absent
-form_seen line (form.InRegister kind register) = form.InRegister kind (expression_of line register)
-form_seen line (form.Indexed kind register index) = form.Indexed kind (expression_of line register) (expression_of line index)
-form_seen line (form.Unindexed register) = form.Unindexed (expression_of line register)
-form_seen line (form.AfterCounter kind number) = form.AfterCounter kind (expression_of line number)
+abbrev pub form_model : Bytes → Form Expr → Form Expression
+form_model line form.Absent = form.Absent
+form_model line (form.InRegister kind register) = form.InRegister kind (expression_of line register)
+form_model line (form.Indexed kind register index) = form.Indexed kind (expression_of line register) (expression_of line index)
+form_model line (form.Unindexed register) = form.Unindexed (expression_of line register)
+form_model line (form.AfterCounter kind number) = form.AfterCounter kind (expression_of line number)
 
-abbrev pub field_seen : Bytes → Field Expr → Field Expression
-field_seen line (Operand form) = Operand (form_seen line form)
-field_seen line (Register register) = Register (expression_of line register)
-field_seen line (Target target) = Target (expression_of line target)
-field_seen line (Number number) = Number (expression_of line number)
-field_seen line Missing = Missing
+abbrev pub field_model : Bytes → Field Expr → Field Expression
+field_model line (Operand form) = Operand (form_model line form)
+field_model line (Register register) = Register (expression_of line register)
+field_model line (Target target) = Target (expression_of line target)
+field_model line (Number number) = Number (expression_of line number)
+field_model line Missing = Missing
 
-abbrev pub field_at_seen : Bytes → FieldAt → rules.FieldAt
-field_at_seen line read = record { field = field_seen line read.field; end = read.end; flags = bits_of read.flags }
+abbrev pub field_at_model : Bytes → FieldAt → rules.FieldAt
+field_at_model line read = record { field = field_model line read.field; end = read.end; flags = bits_of read.flags }
 
-abbrev pub fields_seen : Bytes → Fields → rules.Fields
-fields_seen line fields = record {
-  first = field_seen line fields.first;
-  second = field_seen line fields.second;
+abbrev pub fields_model : Bytes → Fields → rules.Fields
+fields_model line fields = record {
+  first = field_model line fields.first;
+  second = field_model line fields.second;
   end = fields.end;
   flags = bits_of fields.flags;
 }

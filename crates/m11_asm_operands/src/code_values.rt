@@ -2,7 +2,7 @@
 //! Processor Handbook, "Instruction set" and "Addressing modes".)
 
 ghost use Rattle.std.specs.Prelude.{◌≡◌};
-ghost use Rattle.m11_asm_operands.specs.Reads.{field_seen, form_seen};
+ghost use Rattle.m11_asm_operands.specs.Reads.{field_model, form_model};
 ghost use Rattle.m11_asm_operands.specs.CodeValues as spec;
 ghost use Rattle.m11_asm_operands.specs.LineContext.{line_context_of};
 ghost use Rattle.m11_scan_expressions.specs.Quantities.{quantity};
@@ -21,7 +21,7 @@ fn no_value() -> Value
 
 // The value of the register of a form, or 0 if the form has none.
 fn form_value(line_context: &LineContext, form: Form<Expr>) -> Value
-    ensures { quantity result ≡ spec.form_value (line_context_of line_context.now) (form_seen line_context.now.line form) }
+    ensures { quantity result ≡ spec.form_value (line_context_of line_context.now) (form_model line_context.now.line form) }
 {
     match form {
         Form::Absent | Form::AfterCounter(_, _) => no_value(),
@@ -35,7 +35,7 @@ fn form_value(line_context: &LineContext, form: Form<Expr>) -> Value
 // speed: a call would pass the value through memory.
 #[inline(always)]
 pub(crate) fn field_value(line_context: &LineContext, field: Field<Expr>) -> Value
-    ensures { quantity result ≡ spec.field_value (line_context_of line_context.now) (field_seen line_context.now.line field) }
+    ensures { quantity result ≡ spec.field_value (line_context_of line_context.now) (field_model line_context.now.line field) }
 {
     match field {
         Field::Operand(form) => form_value(line_context, form),

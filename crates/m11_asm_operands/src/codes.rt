@@ -3,7 +3,7 @@
 
 ghost use Rattle.std.specs.Prelude.{◌≡◌, ◌<◌, ◌%◌, IsTrue, nat_le};
 ghost use Rattle.m11_base.specs.Devices.{Bytes};
-ghost use Rattle.m11_asm_operands.specs.Reads.{field_seen};
+ghost use Rattle.m11_asm_operands.specs.Reads.{field_model};
 ghost use Rattle.m11_base.specs.Encoding as encoding;
 ghost use Rattle.m11_base.specs.declared.instruction.Op.TheVariants as op;
 ghost use Rattle.m11_asm_operands.specs.CodeValues.{field_value};
@@ -29,8 +29,8 @@ use m11_scan_expressions::{Expr, Value};
 
 // The operand in a field with this value; R0 if the field has none.
 fn operand_in(field: Field<Expr>, value: &Value) -> Operand
-    ensures { (line_context : Stated) (line : Bytes) → quantity value.now ≡ field_value line_context (field_seen line field)
-        → result ≡ spec.operand_in line_context (field_seen line field) }
+    ensures { (line_context : Stated) (line : Bytes) → quantity value.now ≡ field_value line_context (field_model line field)
+        → result ≡ spec.operand_in line_context (field_model line field) }
 {
     match field {
         Field::Operand(form) => operand_of(form, value),
@@ -43,8 +43,8 @@ fn operand_in(field: Field<Expr>, value: &Value) -> Operand
 
 // The register in a field with this value; R0 if the field has none.
 fn register_in(field: Field<Expr>, value: &Value) -> Register
-    ensures { (line_context : Stated) (line : Bytes) → quantity value.now ≡ field_value line_context (field_seen line field)
-        → result ≡ spec.register_in line_context (field_seen line field) }
+    ensures { (line_context : Stated) (line : Bytes) → quantity value.now ≡ field_value line_context (field_model line field)
+        → result ≡ spec.register_in line_context (field_model line field) }
 {
     match field {
         Field::Register(_) => register(value),
@@ -54,8 +54,8 @@ fn register_in(field: Field<Expr>, value: &Value) -> Register
 
 // The offset of a branch to the target in a field with this value; 0 if the field has none.
 fn branch_in(line_context: &LineContext, field: Field<Expr>, value: &Value) -> u8
-    requires { quantity value.now ≡ field_value (line_context_of line_context.now) (field_seen line_context.now.line field) }
-    ensures { result ≡ elim (field_seen line_context.now.line field) [
+    requires { quantity value.now ≡ field_value (line_context_of line_context.now) (field_model line_context.now.line field) }
+    ensures { result ≡ elim (field_model line_context.now.line field) [
       | content.Target target ↦ branch_offset line_context.now.table line_context.now.location
           (expressions.value (line_context_of line_context.now).known target)
       | _ ↦ 0
@@ -69,8 +69,8 @@ fn branch_in(line_context: &LineContext, field: Field<Expr>, value: &Value) -> u
 
 // The offset of SOB to the target in a field with this value; 0 if the field has none.
 fn loop_in(line_context: &LineContext, field: Field<Expr>, value: &Value) -> u8
-    requires { quantity value.now ≡ field_value (line_context_of line_context.now) (field_seen line_context.now.line field) }
-    ensures offset { result ≡ elim (field_seen line_context.now.line field) [
+    requires { quantity value.now ≡ field_value (line_context_of line_context.now) (field_model line_context.now.line field) }
+    ensures offset { result ≡ elim (field_model line_context.now.line field) [
       | content.Target target ↦ loop_offset line_context.now.table line_context.now.location
           (expressions.value (line_context_of line_context.now).known target)
       | _ ↦ 0
@@ -85,8 +85,8 @@ fn loop_in(line_context: &LineContext, field: Field<Expr>, value: &Value) -> u8
 
 // The number in a field with this value, cut to the bits that the code has for it; 0 if the field has none.
 fn number_in(operation: NumberOp, field: Field<Expr>, value: &Value) -> u8
-    ensures number { (line_context : Stated) (line : Bytes) → quantity value.now ≡ field_value line_context (field_seen line field)
-        → result ≡ elim (field_seen line field) [
+    ensures number { (line_context : Stated) (line : Bytes) → quantity value.now ≡ field_value line_context (field_model line field)
+        → result ≡ elim (field_model line field) [
           | content.Number count ↦ expressions.number line_context.known count % encoding.number_limit operation
           | _ ↦ 0
         ] }
@@ -118,10 +118,10 @@ pub(crate) fn instruction(
     second: &Value,
 ) -> Insn
     requires listed { IsTrue (is_listed operation) }
-    requires first { quantity first.now ≡ field_value (line_context_of line_context.now) (field_seen line_context.now.line fields.now.first) }
-    requires second { quantity second.now ≡ field_value (line_context_of line_context.now) (field_seen line_context.now.line fields.now.second) }
+    requires first { quantity first.now ≡ field_value (line_context_of line_context.now) (field_model line_context.now.line fields.now.first) }
+    requires second { quantity second.now ≡ field_value (line_context_of line_context.now) (field_model line_context.now.line fields.now.second) }
     ensures instruction { result ≡ spec.instruction (line_context_of line_context.now) operation
-        (field_seen line_context.now.line fields.now.first) (field_seen line_context.now.line fields.now.second) }
+        (field_model line_context.now.line fields.now.first) (field_model line_context.now.line fields.now.second) }
     ensures fits { IsTrue (encoding.fits result) }
 {
     match operation {
@@ -220,8 +220,8 @@ pub(crate) fn field_flags(
     field: Field<Expr>,
     value: &Value,
 ) -> ErrorFlags
-    requires { quantity value.now ≡ field_value (line_context_of line_context.now) (field_seen line_context.now.line field) }
-    ensures { bits_of result ≡ spec.field_flags (line_context_of line_context.now) operation (field_seen line_context.now.line field) }
+    requires { quantity value.now ≡ field_value (line_context_of line_context.now) (field_model line_context.now.line field) }
+    ensures { bits_of result ≡ spec.field_flags (line_context_of line_context.now) operation (field_model line_context.now.line field) }
 {
     match field {
         Field::Operand(form) => form_flags(form, value),

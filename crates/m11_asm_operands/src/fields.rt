@@ -9,7 +9,7 @@ ghost use Rattle.m11_scan_expressions.specs.Tokens.{expression_of, is_empty};
 ghost use Rattle.m11_unfold_rules.specs.Immediate.{column_after_comma};
 ghost use Rattle.m11_asm_rules.specs.Fields as spec;
 ghost use Rattle.m11_asm_rules.specs.Operands as operand;
-ghost use Rattle.m11_asm_operands.specs.Reads.{bytes_in, field_at_seen, field_seen, fields_seen};
+ghost use Rattle.m11_asm_operands.specs.Reads.{bytes_in, field_at_model, field_model, fields_model};
 ghost use Rattle.m11_asm_rules.specs.declared.fields.Field.TheVariants.{Missing};
 ghost use Rattle.m11_asm_rules.specs.declared.fields.FieldKind.TheVariants.{Operand};
 
@@ -46,7 +46,7 @@ pub struct FieldAt {
 impl Fields {
     /// No fields.
     pub fn new() -> Fields
-        ensures { (line : Bytes) → fields_seen line result ≡ spec.no_fields 0 }
+        ensures { (line : Bytes) → fields_model line result ≡ spec.no_fields 0 }
     {
         Fields {
             first: Field::Missing,
@@ -60,8 +60,8 @@ impl Fields {
     /// `names`, which decides whether an expression is a register.
     // speed: in place, since a returned value is copied piece by piece
     pub fn read<N: Names>(&mut self, line: &Line, start: u8, operation: Op, names: &N)
-        ensures { fields_seen line.now.text self.new
-            ≡ spec.fields_at (known_by (N.base names.now) (N.stands_for names.now)) line.now.text start operation }
+        ensures { fields_model line.now.text self.new
+            ≡ spec.fields_at (known_by (N.base names.now) (N.value_of_symbol names.now)) line.now.text start operation }
     {
         let first = field_at(line, start, first_kind(operation), names);
         self.first = first.field;
@@ -101,8 +101,8 @@ fn second_kind(operation: Op) -> FieldKind
 // speed: inline, since most instructions have one field, or none, and then nothing is called.
 #[inline(always)]
 fn field_after<N: Names>(line: &Line, end: u8, kind: FieldKind, names: &N) -> FieldAt
-    ensures { field_at_seen line.now.text result ≡ spec.field_after
-        (known_by (N.base names.now) (N.stands_for names.now)) line.now.text end kind }
+    ensures { field_at_model line.now.text result ≡ spec.field_after
+        (known_by (N.base names.now) (N.value_of_symbol names.now)) line.now.text end kind }
 {
     match kind {
         FieldKind::NoField => missing(kind, end),
@@ -114,8 +114,8 @@ fn field_after<N: Names>(line: &Line, end: u8, kind: FieldKind, names: &N) -> Fi
 // speed: a call, since an inlined result would be copied piece by piece.
 #[inline(never)]
 fn field_by<N: Names>(line: &Line, end: u8, kind: FieldKind, names: &N) -> FieldAt
-    ensures { field_at_seen line.now.text result ≡ elim (column_after_comma line.now.text end) [
-      | Some next ↦ spec.field_at (known_by (N.base names.now) (N.stands_for names.now)) line.now.text next kind
+    ensures { field_at_model line.now.text result ≡ elim (column_after_comma line.now.text end) [
+      | Some next ↦ spec.field_at (known_by (N.base names.now) (N.value_of_symbol names.now)) line.now.text next kind
       | None ↦ spec.missing_field end kind
     ] }
 {
@@ -127,7 +127,7 @@ fn field_by<N: Names>(line: &Line, end: u8, kind: FieldKind, names: &N) -> Field
 
 // A missing field: A for an operand, a register or a target. A number may be left out.
 fn missing(kind: FieldKind, end: u8) -> FieldAt
-    ensures field { (line : Bytes) → field_at_seen line result ≡ spec.missing_field end kind }
+    ensures field { (line : Bytes) → field_at_model line result ≡ spec.missing_field end kind }
     ensures end { result.end ≡ end }
 {
     match kind {
@@ -147,8 +147,8 @@ fn field_read(field: Field<Expr>, end: u8, flags: ErrorFlags) -> FieldAt
 
 // The field of this kind at a column.
 fn field_at<N: Names>(line: &Line, start: u8, kind: FieldKind, names: &N) -> FieldAt
-    ensures { field_at_seen line.now.text result ≡ spec.field_at
-        (known_by (N.base names.now) (N.stands_for names.now)) line.now.text start kind }
+    ensures { field_at_model line.now.text result ≡ spec.field_at
+        (known_by (N.base names.now) (N.value_of_symbol names.now)) line.now.text start kind }
 {
     match kind {
         FieldKind::Operand => operand(line, start, names),
@@ -170,8 +170,8 @@ fn field_at<N: Names>(line: &Line, start: u8, kind: FieldKind, names: &N) -> Fie
 
 // The operand at a column.
 fn operand<N: Names>(line: &Line, start: u8, names: &N) -> FieldAt
-    ensures { field_at_seen line.now.text result ≡ spec.field_at
-        (known_by (N.base names.now) (N.stands_for names.now)) line.now.text start Operand }
+    ensures { field_at_model line.now.text result ≡ spec.field_at
+        (known_by (N.base names.now) (N.value_of_symbol names.now)) line.now.text start Operand }
 {
     let read = operand_at(line, start);
     field_read(
@@ -183,8 +183,8 @@ fn operand<N: Names>(line: &Line, start: u8, names: &N) -> FieldAt
 
 // A field with the expression that was read at a column. Without an expression it is a missing field, with these flags.
 fn expression(line: &Line, start: u8, at: ExprAt, field: Field<Expr>, flags: ErrorFlags) -> FieldAt
-    ensures { field_at_seen line.now.text result ≡ (if is_empty (expression_of line.now.text at.expr)
-        then spec.field_read Missing start (bits_of flags) else spec.field_read (field_seen line.now.text field) at.end 0) }
+    ensures { field_at_model line.now.text result ≡ (if is_empty (expression_of line.now.text at.expr)
+        then spec.field_read Missing start (bits_of flags) else spec.field_read (field_model line.now.text field) at.end 0) }
 {
     if at.expr.is_empty(line) {
         field_read(Field::Missing, start, flags)
@@ -194,9 +194,9 @@ fn expression(line: &Line, start: u8, at: ExprAt, field: Field<Expr>, flags: Err
 }
 
 /// The size of an instruction in bytes, by its fields: 2, 4 or 6.
-#[tactic(auto, using(crate::proofs::Sizes::size_seen))]
+#[tactic(auto, using(crate::proofs::Sizes::size_of_model))]
 pub fn instruction_size(fields: &Fields) -> u16
-    ensures { (line : Bytes) → result ≡ operand.instruction_size (spec.forms_of (fields_seen line fields.now)) }
+    ensures { (line : Bytes) → result ≡ operand.instruction_size (spec.forms_of (fields_model line fields.now)) }
 {
     2 + bytes_of(fields.first) + bytes_of(fields.second)
 }

@@ -6,7 +6,7 @@ ghost use Rattle.m11_scan_expressions.specs.Expressions.{known_by, value};
 ghost use Rattle.m11_scan_expressions.specs.Kinds.{is_register};
 ghost use Rattle.m11_scan_expressions.specs.Tokens.{expression_of};
 ghost use Rattle.m11_asm_rules.specs.Operands as spec;
-ghost use Rattle.m11_asm_operands.specs.Reads.{form_seen, written_seen};
+ghost use Rattle.m11_asm_operands.specs.Reads.{form_model, written_operand_model};
 
 use m11_asm_rules::{Form, WrittenOperand};
 use m11_base::Mode;
@@ -17,8 +17,8 @@ use m11_scan_expressions::{Expr, Names};
 // speed: a call would pass its result through memory.
 #[inline(always)]
 pub(crate) fn form_of<N: Names>(line: &Line, operand: WrittenOperand<Expr>, names: &N) -> Form<Expr>
-    ensures { form_seen line.now.text result
-        ≡ spec.form_of (known_by (N.base names.now) (N.stands_for names.now)) (written_seen line.now.text operand) }
+    ensures { form_model line.now.text result
+        ≡ spec.form_of (known_by (N.base names.now) (N.value_of_symbol names.now)) (written_operand_model line.now.text operand) }
 {
     match operand {
         WrittenOperand::Absent => Form::Absent,
@@ -53,7 +53,7 @@ pub(crate) fn form_of<N: Names>(line: &Line, operand: WrittenOperand<Expr>, name
 #[inline(always)]
 fn is_register<N: Names>(line: &Line, place: Expr, names: &N) -> bool
     ensures { result ≡ is_register
-        (value (known_by (N.base names.now) (N.stands_for names.now)) (expression_of line.now.text place)).kind }
+        (value (known_by (N.base names.now) (N.value_of_symbol names.now)) (expression_of line.now.text place)).kind }
 {
     place.value(line, names).kind.is_register()
 }

@@ -4,7 +4,7 @@
 ghost use Rattle.std.specs.Prelude.{◌≡◌, List, IfOk, IsTrue};
 ghost use Rattle.std.specs.Int.RustNames.{bit_or};
 ghost use Rattle.m11_asm_operands.specs.ListedOperations.{is_listed};
-ghost use Rattle.m11_asm_operands.specs.Reads.{field_seen, fields_seen};
+ghost use Rattle.m11_asm_operands.specs.Reads.{field_model, fields_model};
 ghost use Rattle.m11_scan_expressions.specs.Tokens.{Expression};
 ghost use Rattle.m11_asm_operands.specs.LineContext.{line_context_of};
 ghost use Rattle.m11_asm_rules.specs.Codes as codes;
@@ -43,7 +43,7 @@ fn emit_code(
 ) -> Result<(), AllocError>
     requires { IsTrue (is_listed operation) }
     ensures { IfOk result (λ _. emission.new ≡ followed_by emission.old (codes.code (line_context_of line_context.now) operation
-        (field_seen line_context.now.line fields.now.first) (field_seen line_context.now.line fields.now.second))) }
+        (field_model line_context.now.line fields.now.first) (field_model line_context.now.line fields.now.second))) }
 {
     let first = field_value(line_context, fields.first);
     let second = field_value(line_context, fields.second);
@@ -64,7 +64,7 @@ fn emit_field(
     ensures { IfOk result (λ next. (forms : List (Form Expression))
         → followed_by emission.new (codes.words_from (line_context_of line_context.now) next forms)
         ≡ followed_by emission.old (codes.words_from (line_context_of line_context.now) location
-        (with_form (field_seen line_context.now.line field) forms))) }
+        (with_form (field_model line_context.now.line field) forms))) }
 {
     match field {
         Field::Operand(form) => {
@@ -83,7 +83,7 @@ fn emit_words_after(
     fields: &Fields,
 ) -> Result<(), AllocError>
     ensures { IfOk result (λ _. emission.new ≡ followed_by emission.old
-        (codes.words_from (line_context_of line_context.now) location (forms_of (fields_seen line_context.now.line fields.now)))) }
+        (codes.words_from (line_context_of line_context.now) location (forms_of (fields_model line_context.now.line fields.now)))) }
 {
     let next = emit_field(emission, line_context, location, fields.first)?;
     emit_field(emission, line_context, next, fields.second)?;
@@ -102,7 +102,7 @@ pub fn emit_instruction(
     requires { IsTrue (is_listed operation) }
     ensures { IfOk result (λ _. emission.new ≡ followed_by emission.old
         (spec.assembled (line_context_of line_context.now) line_context.now.line start operation
-        (fields_seen line_context.now.line fields.now))) }
+        (fields_model line_context.now.line fields.now))) }
 {
     emission.add_flags(line_flags(line_context, start, fields));
     emit_code(emission, line_context, operation, fields)?;

@@ -6,7 +6,7 @@ ghost use Rattle.m11_scan_expressions.specs.Expressions.{value};
 ghost use Rattle.m11_scan_expressions.specs.Tokens.{expression_of};
 ghost use Rattle.m11_base.specs.Devices.{Bytes};
 ghost use Rattle.m11_base.specs.Operand.{register_of};
-ghost use Rattle.m11_asm_operands.specs.Reads.{form_seen};
+ghost use Rattle.m11_asm_operands.specs.Reads.{form_model};
 ghost use Rattle.m11_asm_operands.specs.CodeValues.{form_value};
 ghost use Rattle.m11_asm_operands.specs.LineContext.{line_context_of};
 ghost use Rattle.m11_asm_rules.specs.Codes as spec;
@@ -48,8 +48,8 @@ fn operand(mode: Mode, register: Register) -> Operand
 // The mode and the register of a form whose register has this value; R0 for a missing operand, and PC for a form without a register of its
 // own.
 pub(crate) fn operand_of(form: Form<Expr>, value: &Value) -> Operand
-    ensures { (line_context : Stated) (line : Bytes) → quantity value.now ≡ form_value line_context (form_seen line form)
-        → result ≡ spec.operand_of line_context (form_seen line form) }
+    ensures { (line_context : Stated) (line : Bytes) → quantity value.now ≡ form_value line_context (form_model line form)
+        → result ≡ spec.operand_of line_context (form_model line form) }
 {
     match form {
         Form::Absent => operand(Mode::Register, Register::R0),
@@ -62,8 +62,8 @@ pub(crate) fn operand_of(form: Form<Expr>, value: &Value) -> Operand
 
 // The flags of a form whose register has this value; none if the form has no register.
 pub(crate) fn form_flags(form: Form<Expr>, value: &Value) -> ErrorFlags
-    ensures { (line_context : Stated) (line : Bytes) → quantity value.now ≡ form_value line_context (form_seen line form)
-        → bits_of result ≡ spec.form_flags line_context (form_seen line form) }
+    ensures { (line_context : Stated) (line : Bytes) → quantity value.now ≡ form_value line_context (form_model line form)
+        → bits_of result ≡ spec.form_flags line_context (form_model line form) }
 {
     match form {
         Form::Absent | Form::AfterCounter(_, _) => ErrorFlags::none(),
@@ -90,7 +90,7 @@ pub(crate) fn emit_form(
     form: Form<Expr>,
 ) -> Result<(), AllocError>
     ensures { IfOk result (λ _. emission.new ≡ followed_by emission.old
-        (spec.form_words (line_context_of line_context.now) location (form_seen line_context.now.line form))) }
+        (spec.form_words (line_context_of line_context.now) location (form_model line_context.now.line form))) }
 {
     match form {
         Form::Absent | Form::InRegister(_, _) => Ok(()),

@@ -11,7 +11,7 @@ ghost use Rattle.m11_scan_expressions.specs.Expressions.{IsNext};
 ghost use Rattle.m11_scan_expressions.specs.Tokens.{expression, expression_of};
 ghost use Rattle.m11_asm_rules.specs.Operands as spec;
 ghost use Rattle.m11_asm_rules.specs.declared.operands.WrittenOperand.TheVariants.{Absent, Before, Immediate, Indexed};
-ghost use Rattle.m11_asm_operands.specs.Reads.{opens_after, read_seen, written_seen};
+ghost use Rattle.m11_asm_operands.specs.Reads.{opens_after, operand_at_model, written_operand_model};
 
 use m11_asm_rules::WrittenOperand;
 use m11_scan::{ErrorFlags, Line, Sort, Token, next_token, skipped_between};
@@ -32,7 +32,7 @@ pub struct OperandAt {
 // speed: a call would pass its result through memory.
 #[inline(always)]
 pub(crate) fn operand_at(line: &Line, start: u8) -> OperandAt
-    ensures { read_seen line.now.text result ≡ spec.operand_at line.now.text start }
+    ensures { operand_at_model line.now.text result ≡ spec.operand_at line.now.text start }
 {
     match next_token(line, start) {
         Some(token) => match token.sort {
@@ -56,14 +56,14 @@ fn read(operand: WrittenOperand<Expr>, end: u8, flags: ErrorFlags) -> OperandAt
 
 // A missing operand, flagged A.
 fn absent(start: u8) -> OperandAt
-    ensures { (line : Bytes) → read_seen line result ≡ spec.read Absent start flag_A }
+    ensures { (line : Bytes) → operand_at_model line result ≡ spec.read Absent start flag_A }
 {
     read(WrittenOperand::Absent, start, ErrorFlags::A)
 }
 
 // An operand with `@`, read from the column after the `@`.
 fn deferred(line: &Line, start: u8) -> OperandAt
-    ensures { read_seen line.now.text result ≡ spec.deferred_by line.now.text start (tokens_from line.now.text start) }
+    ensures { operand_at_model line.now.text result ≡ spec.deferred_by line.now.text start (tokens_from line.now.text start) }
 {
     match next_token(line, start) {
         Some(token) => begun_by(line, true, start, token),
@@ -76,7 +76,7 @@ fn deferred(line: &Line, start: u8) -> OperandAt
 #[inline(always)]
 fn begun_by(line: &Line, is_deferred: bool, start: u8, token: Token) -> OperandAt
     requires { IsNext line.now.text start token }
-    ensures { read_seen line.now.text result ≡ spec.begun_by is_deferred
+    ensures { operand_at_model line.now.text result ≡ spec.begun_by is_deferred
         line.now.text start token.sort token.end (tokens_from line.now.text token.end) }
 {
     match token.sort {
@@ -89,7 +89,7 @@ fn begun_by(line: &Line, is_deferred: bool, start: u8, token: Token) -> OperandA
 
 // An operand with `#`, read from the column after the `#`: an expression.
 fn immediate(line: &Line, is_deferred: bool, start: u8) -> OperandAt
-    ensures { read_seen line.now.text result
+    ensures { operand_at_model line.now.text result
         ≡ spec.read (Immediate is_deferred (expression line.now.text start)) (expression_end line.now.text start) 0 }
 {
     let at = expr_at(line, start);
@@ -104,7 +104,7 @@ fn immediate(line: &Line, is_deferred: bool, start: u8) -> OperandAt
 // them, otherwise an expression with a sign.
 fn after_minus(line: &Line, is_deferred: bool, start: u8, minus: Token) -> OperandAt
     requires { IsNext line.now.text start minus }
-    ensures { read_seen line.now.text result
+    ensures { operand_at_model line.now.text result
         ≡ spec.after_minus is_deferred line.now.text start minus.end (tokens_from line.now.text minus.end) }
 {
     match next_token(line, minus.end) {
@@ -122,7 +122,7 @@ fn opens_after(line: &Line, column: u8, token: Token) -> bool
 
 // An operand `-(R)` or `@-(R)`, read from the column after its `(`: a register and a `)`. The operand is flagged A if the `)` is missing.
 fn before(line: &Line, is_deferred: bool, start: u8) -> OperandAt
-    ensures { read_seen line.now.text result ≡ spec.closed (Before is_deferred) line.now.text start }
+    ensures { operand_at_model line.now.text result ≡ spec.closed (Before is_deferred) line.now.text start }
 {
     let at = expr_at(line, start);
     closed_by(
@@ -135,7 +135,7 @@ fn before(line: &Line, is_deferred: bool, start: u8) -> OperandAt
 
 // An operand with an index, read from the column after its `(`: a register and a `)`. The operand is flagged A if the `)` is missing.
 fn indexed(line: &Line, is_deferred: bool, index: Expr, start: u8) -> OperandAt
-    ensures { read_seen line.now.text result
+    ensures { operand_at_model line.now.text result
         ≡ spec.closed (Indexed is_deferred (expression_of line.now.text index)) line.now.text start }
 {
     let at = expr_at(line, start);
@@ -153,8 +153,8 @@ fn indexed(line: &Line, is_deferred: bool, index: Expr, start: u8) -> OperandAt
 fn closed_by(line: &Line, operand: WrittenOperand<Expr>, end: u8, next: Option<Token>) -> OperandAt
     requires { MatchOption next (tokens_from line.now.text end ≡ [])
         (λ token. tokens_from line.now.text end ≡ lexeme line.now.text token ∷ tokens_from line.now.text token.end) }
-    ensures { read_seen line.now.text result
-        ≡ spec.closed_by (written_seen line.now.text operand) end (tokens_from line.now.text end) }
+    ensures { operand_at_model line.now.text result
+        ≡ spec.closed_by (written_operand_model line.now.text operand) end (tokens_from line.now.text end) }
 {
     match next {
         Some(token) if is_close(token.sort) => read(operand, token.end, ErrorFlags::none()),
@@ -167,7 +167,7 @@ fn closed_by(line: &Line, operand: WrittenOperand<Expr>, end: u8, next: Option<T
 #[inline(always)]
 fn place(line: &Line, is_deferred: bool, start: u8, token: Token) -> OperandAt
     requires { IsNext line.now.text start token }
-    ensures { read_seen line.now.text result ≡ spec.place is_deferred line.now.text start }
+    ensures { operand_at_model line.now.text result ≡ spec.place is_deferred line.now.text start }
 {
     reached(line, is_deferred, start, expr_from(line, start, token))
 }
@@ -180,7 +180,7 @@ fn reached(line: &Line, is_deferred: bool, start: u8, at: ExprAt) -> OperandAt
     requires end { at.end ≡ expression_end line.now.text start }
     requires next { MatchOption at.next (tokens_from line.now.text at.end ≡ [])
         (λ token. tokens_from line.now.text at.end ≡ lexeme line.now.text token ∷ tokens_from line.now.text token.end) }
-    ensures { read_seen line.now.text result ≡ spec.place is_deferred line.now.text start }
+    ensures { operand_at_model line.now.text result ≡ spec.place is_deferred line.now.text start }
 {
     match at.next {
         Some(token) if is_open(token.sort) => indexed(line, is_deferred, at.expr, token.end),
@@ -195,7 +195,7 @@ fn reached(line: &Line, is_deferred: bool, start: u8, at: ExprAt) -> OperandAt
 // An operand that begins with `(` or `@(`, read from the column after the `(`: a register, a `)`, and perhaps a `+`. The operand is flagged
 // A if the `)` is missing.
 fn bracketed(line: &Line, is_deferred: bool, start: u8) -> OperandAt
-    ensures { read_seen line.now.text result ≡ spec.bracketed is_deferred line.now.text start }
+    ensures { operand_at_model line.now.text result ≡ spec.bracketed is_deferred line.now.text start }
 {
     let at = expr_at(line, start);
     match at.next {
@@ -210,7 +210,7 @@ fn bracketed(line: &Line, is_deferred: bool, start: u8) -> OperandAt
 
 // The operand `(R)` or `@(R)`, with or without a `+` after it.
 fn stepped(line: &Line, is_deferred: bool, register: Expr, end: u8) -> OperandAt
-    ensures { read_seen line.now.text result
+    ensures { operand_at_model line.now.text result
         ≡ spec.stepped_by is_deferred (expression_of line.now.text register) end (tokens_from line.now.text end) }
 {
     match next_token(line, end) {

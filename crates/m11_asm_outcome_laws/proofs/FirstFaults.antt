@@ -16,7 +16,7 @@ use Rattle.m11_asm_passes.specs.Lines.{NumberedLine, PassLines, counting_at, giv
 use Rattle.m11_asm_passes.specs.Reaching as reaching
 use Rattle.m11_asm_passes.specs.Reaching.{Exceeds}
 use Rattle.m11_asm_passes.specs.Refusals.{given_by, labels_fault, line_fault, placing_fault}
-use Rattle.m11_asm_rules.specs.Labels.{labels_stand}
+use Rattle.m11_asm_rules.specs.Labels.{after_labels_in}
 use Rattle.m11_asm_rules.specs.Meanings.{Map}
 use Rattle.m11_asm_rules.specs.Tables.{Table}
 use Rattle.m11_asm_rules.specs.Unfolded.{AreLines, known_after_labels}
@@ -94,7 +94,7 @@ module _ (compare : Compared) (more : List SourceLine) where
     same_by : (acting : Option UnfoldFault) → act_fault after live.line.text ≡ acting → limit acting on ≡ limit acting before
     same_by (Some fault) acts = refl
     same_by None acts =
-        ap (limit None) (same_given (known_after_labels (labels_stand table live.line.text)) stage after live fits moves acts)
+        ap (limit None) (same_given (known_after_labels (after_labels_in table live.line.text)) stage after live fits moves acts)
 
     same_fault : line_fault map_ table counting live (with_more more after) ≡ line_fault map_ table counting live after
     same_fault =
@@ -116,7 +116,7 @@ module _ (compare : Compared) (map_ : Map) (counting : Counting) (reading : Read
     stage = with_more more stage;
     first = first_lines source more stage parts passes;
     limits = keeps map_ counting source placed stage passes;
-    next = first.NextFails.AtTaking inner (fault_on more stage.has_ended stage.left stage inner exceeds) is;
+    next = first.NextFails.AtUnfolding inner (fault_on more stage.has_ended stage.left stage inner exceeds) is;
   }
   exceeded source more fault parts (reaching.Exceeds.AtLine stage after live passes fits moves exceeds) = record {
     stage = with_more more stage;

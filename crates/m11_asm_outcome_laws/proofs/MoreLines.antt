@@ -12,7 +12,7 @@ use Rattle.m11_unfold_rules.specs.Acting.{Operation, Calls, OwnDirective, Foreig
 use Rattle.m11_unfold_rules.specs.Histories.{with_more}
 use Rattle.m11_unfold_rules.specs.Limits.{body_fault, closing_fault, depth_fault, fault_if, line_fault, most_bytes, most_lines}
 use Rattle.m11_unfold_rules.specs.Stages.{Opening, Purpose, Defines, Repeats, Drops, Stage, line_left}
-use Rattle.m11_unfold_rules.specs.Taking.{Gives, Live, Move, Passes, NothingLeft, line_taken, move, nesting, one_taken, skipped}
+use Rattle.m11_unfold_rules.specs.Taking.{Gives, Live, Move, Passes, NothingLeft, line_move, move, nesting, one_taken, skipped}
 use Rattle.m11_unfold_rules.specs.declared.fault.UnfoldFault.{UnfoldFault}
 use Rattle.m11_unfold_rules.specs.declared.fault.UnfoldFault.TheVariants.{TooDeep, TooManyLines, TooMuchText}
 use Rattle.m11_unfold_rules.proofs.Cases.{bytes_taken, fault_by, live_or_skipped, move_from, taking_fault}
@@ -70,8 +70,8 @@ module _ (more : List SourceLine) where
       ap (λ (ms : List Mark). Gives (record { line = line; is_expanded = has_mark ms }) (with_more more stage)) (same_open more stage.left)
 
   taken_on : (opening : Option Opening) (line : SourceLine) (stage after : Stage) (live : Live)
-      → line_taken opening line stage ≡ Gives live after
-      → line_taken opening line (with_more more stage) ≡ Gives live (with_more more after)
+      → line_move opening line stage ≡ Gives live after
+      → line_move opening line (with_more more stage) ≡ Gives live (with_more more after)
   taken_on (Some opening) line stage after live is = absurd (let bad = is in cc)
   taken_on None line stage after live is = live_on (skipped stage.conditions line.text) line stage ∙ ap on_after is
 

@@ -12,7 +12,7 @@ use Rattle.m11_asm_lines.specs.declared.counting.Counting.{Counting}
 use Rattle.m11_asm_lines.specs.declared.counting.Counting.TheVariants.{Definitions}
 use Rattle.m11_asm_outcome_laws.proofs.WholeEnds.{Compared, EndsOnce, Taking, at_rest, no_fault, stays, stuck_halts, stuck_moves}
 use Rattle.m11_asm_outcome_laws.proofs.WholeSources.{kept_at, known_by, tells, told_from}
-use Rattle.m11_asm_outcome_laws.specs.AllLines.{KeepLimits}
+use Rattle.m11_asm_outcome_laws.specs.AllLines.{AreWithinLimits}
 use Rattle.m11_asm_outcome_laws.specs.FirstFaults as first
 use Rattle.m11_asm_outcome_laws.specs.FirstFaults.{AreAllRead, IsRefusedAfter, NextFails}
 use Rattle.m11_asm_outcome_laws.specs.Numbers.{HaveNumbers, IsLastNumber}
@@ -131,7 +131,7 @@ module _ (compare : Compared) (once : EndsOnce) (map_ : Map) (counting : Countin
 
   -- a live line that exceeds a limit isn't among lines that exceed none
   module _ (done gives : List UnfoldedLine) (after : Stage) (live : Live) (there : Stage) (fault : AsmFault)
-      (are : AreLines map_ reading.lines gives after) (kept : KeepLimits map_ first_table counting gives)
+      (are : AreLines map_ reading.lines gives after) (kept : AreWithinLimits map_ first_table counting gives)
       (exceeds : line_fault map_ (table_after map_ done) (counting_after map_ first_table done counting) live there ≡ Some fault) where
     abbrev table : Table
     table = table_after map_ done
@@ -148,7 +148,7 @@ module _ (compare : Compared) (once : EndsOnce) (map_ : Map) (counting : Countin
     not_among more whole is_first =
         let one : UnfoldedLine = given is_first.known live there in
         let split : gives ≡ done ++ one ∷ is_first.rest = whole ∙ ap (λ (m : List UnfoldedLine). done ++ m) is_first.whole in
-        let P : List UnfoldedLine → Type 0 = KeepLimits map_ first_table counting in
+        let P : List UnfoldedLine → Type 0 = AreWithinLimits map_ first_table counting in
         let here = kept_at map_ first_table counting done is_first.rest one (subst P split kept) in
         let Q : UnfoldedLine → Type 0 = λ g. placing_fault map_ table named g ≡ None in
         let placing : placing_fault map_ table named (given_by table live there) ≡ None = subst Q (is_told is_first.known is_first.rest split) here.1 in
@@ -159,9 +159,9 @@ module _ (compare : Compared) (once : EndsOnce) (map_ : Map) (counting : Countin
 
   -- after the fault of a reading, its unfolding goes no further
   no_further : (done gives : List UnfoldedLine) (stage after : Stage) (fault : AsmFault) → NextFails map_ counting reading done stage fault
-      → AreLines map_ reading.lines gives after → KeepLimits map_ first_table counting gives → (more : List UnfoldedLine)
+      → AreLines map_ reading.lines gives after → AreWithinLimits map_ first_table counting gives → (more : List UnfoldedLine)
       → gives ≡ done ++ more → Leads stage more after → (more ≡ []) × (after ≡ stage)
-  no_further done gives stage after fault (first.NextFails.AtTaking inner exceeds is) are kept more whole leads =
+  no_further done gives stage after fault (first.NextFails.AtUnfolding inner exceeds is) are kept more whole leads =
       stays stage after more (stuck_halts stage (Taking inner exceeds)) leads
   no_further done gives stage after fault (first.NextFails.AtReading inner rests goes stops is) are kept more whole leads =
       stays stage after more (at_rest stage rests) leads
@@ -175,15 +175,15 @@ module _ (compare : Compared) (once : EndsOnce) (map_ : Map) (counting : Countin
   -- at one stage of its unfolding, a reading has only one fault
   next_alike : (done : List UnfoldedLine) (stage : Stage) (one other : AsmFault) → NextFails map_ counting reading done stage one
       → NextFails map_ counting reading done stage other → one ≡ other
-  next_alike done stage one other (first.NextFails.AtTaking inner exceeds is) (first.NextFails.AtTaking inner' exceeds' is') =
+  next_alike done stage one other (first.NextFails.AtUnfolding inner exceeds is) (first.NextFails.AtUnfolding inner' exceeds' is') =
       let both : Some inner ≡ Some inner' = sym exceeds ∙ exceeds' in
       let same : inner ≡ inner' = cc in
       is ∙ ap of_unfolding same ∙ sym is'
-  next_alike done stage one other (first.NextFails.AtTaking inner exceeds is) (first.NextFails.AtLine live there fits moves exceeds') =
+  next_alike done stage one other (first.NextFails.AtUnfolding inner exceeds is) (first.NextFails.AtLine live there fits moves exceeds') =
       let bad : Some inner ≡ None = sym exceeds ∙ fits in absurd (cc bad)
-  next_alike done stage one other (first.NextFails.AtTaking inner exceeds is) (first.NextFails.AtReading inner' rests goes stops is') =
+  next_alike done stage one other (first.NextFails.AtUnfolding inner exceeds is) (first.NextFails.AtReading inner' rests goes stops is') =
       absurd (stuck_moves stage (Taking inner exceeds) rests)
-  next_alike done stage one other (first.NextFails.AtLine live there fits moves exceeds) (first.NextFails.AtTaking inner exceeds' is) =
+  next_alike done stage one other (first.NextFails.AtLine live there fits moves exceeds) (first.NextFails.AtUnfolding inner exceeds' is) =
       let bad : Some inner ≡ None = sym exceeds' ∙ fits in absurd (cc bad)
   next_alike done stage one other (first.NextFails.AtLine live there fits moves exceeds) (first.NextFails.AtLine live' there' fits' moves' exceeds') =
       let both : Gives live there ≡ Gives live' there' = sym moves ∙ moves' in
@@ -194,7 +194,7 @@ module _ (compare : Compared) (once : EndsOnce) (map_ : Map) (counting : Countin
       let faults : Some one ≡ Some other = sym exceeds ∙ same ∙ exceeds' in cc
   next_alike done stage one other (first.NextFails.AtLine live there fits moves exceeds) (first.NextFails.AtReading inner rests goes stops is) =
       let bad : Gives live there ≡ NothingLeft = sym moves ∙ rests in absurd (cc bad)
-  next_alike done stage one other (first.NextFails.AtReading inner rests goes stops is) (first.NextFails.AtTaking inner' exceeds is') =
+  next_alike done stage one other (first.NextFails.AtReading inner rests goes stops is) (first.NextFails.AtUnfolding inner' exceeds is') =
       absurd (stuck_moves stage (Taking inner' exceeds) rests)
   next_alike done stage one other (first.NextFails.AtReading inner rests goes stops is) (first.NextFails.AtLine live there fits moves exceeds) =
       let bad : Gives live there ≡ NothingLeft = sym moves ∙ rests in absurd (cc bad)
@@ -237,7 +237,7 @@ module _ (compare : Compared) (once : EndsOnce) (map_ : Map) (counting : Countin
   -- if nothing is left to unfold, and the reading has no fault unless `.END` became live, no fault comes next
   not_at_rest : (done : List UnfoldedLine) (stage : Stage) (fault : AsmFault) → move stage ≡ NothingLeft
       → (stage.has_ended ≡ false → reading.fault ≡ None) → NextFails map_ counting reading done stage fault → ⊥
-  not_at_rest done stage fault rests unless_end (first.NextFails.AtTaking inner exceeds is) = stuck_moves stage (Taking inner exceeds) rests
+  not_at_rest done stage fault rests unless_end (first.NextFails.AtUnfolding inner exceeds is) = stuck_moves stage (Taking inner exceeds) rests
   not_at_rest done stage fault rests unless_end (first.NextFails.AtLine live there fits moves exceeds) =
       let bad : Gives live there ≡ NothingLeft = sym moves ∙ rests in cc
   not_at_rest done stage fault rests unless_end (first.NextFails.AtReading inner rests' goes stops is) =

@@ -22,7 +22,7 @@ use Rattle.m11_unfold_rules.specs.Acting.{act_fault}
 use Rattle.m11_unfold_rules.specs.Histories.{GoesOn, IsKnownBy, with_more}
 use Rattle.m11_unfold_rules.specs.Limits.{next_fault}
 use Rattle.m11_unfold_rules.specs.Stages.{Opening, Stage, line_left, start}
-use Rattle.m11_unfold_rules.specs.Taking.{Gives, Live, Passes, NothingLeft, line_taken, move, one_taken, skipped}
+use Rattle.m11_unfold_rules.specs.Taking.{Gives, Live, Passes, NothingLeft, line_move, move, one_taken, skipped}
 use Rattle.m11_unfold_rules.specs.Unfolding.{UnfoldedLine, Leads}
 use Rattle.m11_unfold_rules.specs.Unfolding as steps
 use Rattle.m11_unfold_rules.specs.declared.fault.UnfoldFault.{UnfoldFault}
@@ -31,7 +31,7 @@ use Rattle.m11_asm_pass_laws.proofs.EachEnds.{has_end}
 use Rattle.m11_asm_outcome_laws.proofs.WholeSources.{all_lines, kept_at, know_more, known_by, so_far, tells}
 use Rattle.m11_asm_pass_laws.specs.Ends.{EndsAfter, ExceedsAfter, HasEnd}
 use Rattle.m11_asm_pass_laws.specs.Ends as ends
-use Rattle.m11_asm_outcome_laws.specs.AllLines.{AreAllLines, EndsWith, KeepLimits}
+use Rattle.m11_asm_outcome_laws.specs.AllLines.{AreAllLines, EndsWith, AreWithinLimits}
 use Rattle.m11_asm_lines.specs.declared.counting.Counting.{Counting}
 
 -- ---- stages from which no move is possible
@@ -90,7 +90,7 @@ no_rest : (conditions : Option OpenConditions) (line : SourceLine) (stage : Stag
 no_rest (Some conditions) line stage is = let bad = is in cc
 no_rest None line stage is = let bad = is in cc
 
-no_rest_line : (opening : Option Opening) (line : SourceLine) (stage : Stage) → line_taken opening line stage ≡ NothingLeft → ⊥
+no_rest_line : (opening : Option Opening) (line : SourceLine) (stage : Stage) → line_move opening line stage ≡ NothingLeft → ⊥
 no_rest_line (Some opening) line stage is = let bad = is in cc
 no_rest_line None line stage is = no_rest (skipped stage.conditions line.text) line stage is
 
@@ -153,7 +153,7 @@ module _ (compare : Compared) (once : EndsOnce) (map_ : Map) (counting : Countin
       (all_lines map_ counting all source placed_lines stage end) whole
 
   module _ (gives : List UnfoldedLine) (after : Stage) (whole : AreAllLines map_ all gives after)
-      (kept : KeepLimits map_ first_table counting gives) where
+      (kept : AreWithinLimits map_ first_table counting gives) where
     -- any other unfolding goes on to this end
     on_to_end : (done : List UnfoldedLine) (stage : Stage) → AreLines map_ all done stage → GoesOn done stage gives after
     on_to_end done stage are =
@@ -215,7 +215,7 @@ module _ (compare : Compared) (once : EndsOnce) (map_ : Map) (counting : Countin
             = on_to_end (givens placed_lines ++ one ∷ []) (with_more more (acted table live there)) (with_line acts) in
             let split : gives ≡ givens placed_lines ++ one ∷ on.more
             = on.whole ∙ append_assoc (givens placed_lines) (one ∷ []) on.more in
-            let P : List UnfoldedLine → Type 0 = KeepLimits map_ first_table counting in
+            let P : List UnfoldedLine → Type 0 = AreWithinLimits map_ first_table counting in
             let here = kept_at map_ first_table counting (givens placed_lines) on.more one (subst P split kept) in
             no_fault (labels_fault named table live.line.text) (act_fault there live.line.text) (placing_fault map_ table named one) here.0 acts
             here.1

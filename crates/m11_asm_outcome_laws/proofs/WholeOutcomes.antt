@@ -6,7 +6,7 @@ use Rattle.m11_asm.specs.Program.{Program, program_of}
 use Rattle.m11_asm.specs.Written.{EndOfSource}
 use Rattle.m11_asm_faults.specs.declared.fault.AsmFault.{AsmFault}
 use Rattle.m11_scan.specs.Line.{SourceLine}
-use Rattle.m11_asm_outcome_laws.specs.AllLines.{AreAllLines, KeepLimits}
+use Rattle.m11_asm_outcome_laws.specs.AllLines.{AreAllLines, AreWithinLimits}
 use Rattle.m11_asm_outcome_laws.specs.FirstFaults.{AreAllRead, IsRefusedAfter}
 use Rattle.m11_asm_outcome_laws.specs.Numbers.{HaveNumbers}
 use Rattle.m11_asm_outcome_laws.specs.WholeSources.{IsOfWholeSources, IsProgramOf}
@@ -26,7 +26,7 @@ use Rattle.m11_asm_lines.specs.Counting.{none_used}
 -- three parts of the law of the lines of a pass, and the law of refusals
 abbrev pub Limits : Type 0
 Limits = (map : Map) (counting : Counting) (source : List SourceLine) (lines : List NumberedLine) (stage : Stage)
-    → PassLines map counting source lines stage → KeepLimits map first_table counting (givens lines)
+    → PassLines map counting source lines stage → AreWithinLimits map first_table counting (givens lines)
 
 abbrev pub AllLines : Type 0
 AllLines = (map : Map) (counting : Counting) (all source : List SourceLine) (lines : List NumberedLine) (stage : Stage)

@@ -12,7 +12,7 @@ use Rattle.m11_asm_lines.specs.Counting.{with_counted}
 use Rattle.m11_asm_passes.specs.Lines.{NumberedLine, PassLines, acted, counting_after, counting_at, givens, numbered, table_at, with_line}
 use Rattle.m11_asm_passes.specs.Lines as lines
 use Rattle.m11_asm_passes.specs.Refusals.{given_by, labels_fault, line_fault, placing_fault}
-use Rattle.m11_asm_rules.specs.Labels.{labels_stand}
+use Rattle.m11_asm_rules.specs.Labels.{after_labels_in}
 use Rattle.m11_asm_rules.specs.Lines.{after_line, stands}
 use Rattle.m11_asm_rules.specs.Meanings.{Map}
 use Rattle.m11_asm_rules.specs.SymbolUses.{symbol_uses}
@@ -31,7 +31,7 @@ use Rattle.m11_unfold_rules.specs.Unfolding as steps
 use Rattle.m11_unfold_rules.specs.declared.fault.UnfoldFault.{UnfoldFault}
 use Rattle.m11_asm_pass_laws.proofs.Stepping.{ended_rests, none_rests}
 use Rattle.m11_asm_pass_laws.specs.Ends.{EndsAfter, IsOver}
-use Rattle.m11_asm_outcome_laws.specs.AllLines.{AreAllLines, KeepLimits}
+use Rattle.m11_asm_outcome_laws.specs.AllLines.{AreAllLines, AreWithinLimits}
 use Rattle.m11_asm_lines.specs.declared.counting.Counting.{Counting}
 
 -- ---- a line that exceeds no limit
@@ -66,7 +66,7 @@ know_more map_ table (given ∷ done) one are_told is =
 
 -- what is known at a live line, from the lines before it
 pub tells : Map → List UnfoldedLine → Live → KnownSymbols
-tells map_ earlier live = known_after_labels (labels_stand (table_after map_ earlier) live.line.text)
+tells map_ earlier live = known_after_labels (after_labels_in (table_after map_ earlier) live.line.text)
 
 pub told_from : (map_ : Map) (table : Table) (done : List UnfoldedLine) → KnowLinesBefore map_ table done
     → (earlier later : List UnfoldedLine) (one : UnfoldedLine) → done ≡ earlier ++ one ∷ later
@@ -160,16 +160,16 @@ module _ (map_ : Map) (counting : Counting) where
 -- ---- limits
 
 kept_more : (map_ : Map) (table : Table) (counting : Counting) (done : List UnfoldedLine) (one : UnfoldedLine)
-    → KeepLimits map_ table counting done
+    → AreWithinLimits map_ table counting done
     → labels_fault (counting_after map_ table done counting) (after_lines map_ table done) one.live.line.text ≡ None
     → placing_fault map_ (after_lines map_ table done) (counting_after map_ table done counting) one ≡ None
-    → KeepLimits map_ table counting (done ++ one ∷ [])
+    → AreWithinLimits map_ table counting (done ++ one ∷ [])
 kept_more map_ table counting [] one kept labels placing = (labels, placing, tt)
 kept_more map_ table counting (given ∷ done) one kept labels placing =
     (kept.0, kept.1, kept_more map_ (after_line map_ table given) (with_counted (symbol_uses table given) counting) done one kept.2 labels placing)
 
 pub kept_at : (map_ : Map) (table : Table) (counting : Counting) (done more : List UnfoldedLine) (one : UnfoldedLine)
-    → KeepLimits map_ table counting (done ++ one ∷ more)
+    → AreWithinLimits map_ table counting (done ++ one ∷ more)
     → (labels_fault (counting_after map_ table done counting) (after_lines map_ table done) one.live.line.text ≡ None)
     × (placing_fault map_ (after_lines map_ table done) (counting_after map_ table done counting) one ≡ None)
 kept_at map_ table counting [] more one kept = (kept.0, kept.1)
@@ -178,7 +178,7 @@ kept_at map_ table counting (given ∷ done) more one kept =
 
 module _ (map_ : Map) (counting : Counting) where
   pub keeps : (source : List SourceLine) (placed_lines : List NumberedLine) (stage : Stage)
-      → PassLines map_ counting source placed_lines stage → KeepLimits map_ first_table counting (givens placed_lines)
+      → PassLines map_ counting source placed_lines stage → AreWithinLimits map_ first_table counting (givens placed_lines)
   keeps _ _ _ lines.PassLines.Begins = tt
   keeps _ placed_lines _ (lines.PassLines.Reading source _ stage line before none goes) = keeps source placed_lines stage before
   keeps source placed_lines _ (lines.PassLines.Passing _ _ stage _ before moves) = keeps source placed_lines stage before
@@ -189,7 +189,7 @@ module _ (map_ : Map) (counting : Counting) where
       let acting : Option AsmFault = option_map of_unfolding (act_fault after live.line.text) in
       let placing : Option AsmFault = placing_fault map_ table named one.given in
       let labels : Option AsmFault = labels_fault named table live.line.text in
-      let P : List UnfoldedLine → Type 0 = KeepLimits map_ first_table counting in
+      let P : List UnfoldedLine → Type 0 = AreWithinLimits map_ first_table counting in
       subst P (sym (map-append (λ (line : NumberedLine). line.given) placed_lines (one ∷ [])))
       (kept_more map_ first_table counting (givens placed_lines) one.given (keeps source placed_lines stage before)
       (first_none labels (option_or acting placing) within)

@@ -22,11 +22,11 @@ pub record AreAllLines (map : Map) (source : List SourceLine) (gives : List Unfo
   pub rests : move stage ≡ NothingLeft
 
 -- starting from this table and these counted names, no live line exceeds a limit on names, local symbols or sections
-abbrev pub KeepLimits : Map → Table → Counting → List UnfoldedLine → Type 0
-KeepLimits map table counting [] = ⊤
-KeepLimits map table counting (given ∷ lines) =
+abbrev pub AreWithinLimits : Map → Table → Counting → List UnfoldedLine → Type 0
+AreWithinLimits map table counting [] = ⊤
+AreWithinLimits map table counting (given ∷ lines) =
     (labels_fault counting table given.live.line.text ≡ None) × (placing_fault map table counting given ≡ None)
-    × KeepLimits map (after_line map table given) (with_counted (symbol_uses table given) counting) lines
+    × AreWithinLimits map (after_line map table given) (with_counted (symbol_uses table given) counting) lines
 
 -- a pass over a source reaches its end with these live lines
 pub record EndsWith (map : Map) (counting : Counting) (all : List SourceLine) (gives : List UnfoldedLine) : Type 0 where

@@ -4,7 +4,7 @@ use Rattle.std.specs.Prelude.{◌≡◌, false, List, Some, None}
 use Rattle.m11_asm_faults.specs.Faults.{of_lines, of_unfolding}
 use Rattle.m11_asm_faults.specs.declared.fault.AsmFault.{AsmFault}
 use Rattle.m11_asm_lines.specs.declared.counting.Counting.{Counting}
-use Rattle.m11_asm_outcome_laws.specs.AllLines.{AreAllLines, KeepLimits}
+use Rattle.m11_asm_outcome_laws.specs.AllLines.{AreAllLines, AreWithinLimits}
 use Rattle.m11_asm_passes.specs.Lines.{counting_after}
 use Rattle.m11_asm_passes.specs.Refusals.{line_fault}
 use Rattle.m11_asm_rules.specs.Meanings.{Map}
@@ -23,13 +23,13 @@ use Rattle.m11_unfold_rules.specs.declared.fault.UnfoldFault.{UnfoldFault}
 -- the sources without a fault
 pub record AreAllRead (map : Map) (counting : Counting) (reading : Reading) (lines : List UnfoldedLine) (stage : Stage) : Type 0 where
   pub are : AreAllLines map reading.lines lines stage
-  pub limits : KeepLimits map first_table counting lines
+  pub limits : AreWithinLimits map first_table counting lines
   pub unless_end : stage.has_ended ≡ false → reading.fault ≡ None
 
 -- this fault stops a reading right after these live lines, with the unfolding of the reading at this stage
 pub data NextFails (map : Map) (counting : Counting) (reading : Reading) (lines : List UnfoldedLine) (stage : Stage) (fault : AsmFault) : Type 0 where
   -- the next move exceeds a limit of unfolding
-  AtTaking : (inner : UnfoldFault) → next_fault stage ≡ Some inner → fault ≡ of_unfolding inner → NextFails map counting reading lines stage fault
+  AtUnfolding : (inner : UnfoldFault) → next_fault stage ≡ Some inner → fault ≡ of_unfolding inner → NextFails map counting reading lines stage fault
   -- the next live line exceeds a limit, given the table and the counted names after these lines
   AtLine : (live : Live) (after : Stage) → next_fault stage ≡ None → move stage ≡ Gives live after
       → line_fault map (table_after map lines) (counting_after map first_table lines counting) live after ≡ Some fault
@@ -42,5 +42,5 @@ pub data NextFails (map : Map) (counting : Counting) (reading : Reading) (lines 
 pub record IsRefusedAfter (map : Map) (counting : Counting) (reading : Reading) (lines : List UnfoldedLine) (fault : AsmFault) : Type 0 where
   pub stage : Stage
   pub first : AreLines map reading.lines lines stage
-  pub limits : KeepLimits map first_table counting lines
+  pub limits : AreWithinLimits map first_table counting lines
   pub next : NextFails map counting reading lines stage fault

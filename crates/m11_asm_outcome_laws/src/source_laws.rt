@@ -7,7 +7,7 @@ ghost use Rattle.m11_asm_faults.specs.declared.fault.AsmFault.{AsmFault};
 ghost use Rattle.m11_scan.specs.Line.{SourceLine};
 ghost use Rattle.m11_scan_line_laws.specs.Readings.{Reading};
 ghost use Rattle.m11_asm_pass_laws.specs.Ends.{EndsAfter};
-ghost use Rattle.m11_asm_outcome_laws.specs.AllLines.{AreAllLines, EndsWith, KeepLimits};
+ghost use Rattle.m11_asm_outcome_laws.specs.AllLines.{AreAllLines, EndsWith, AreWithinLimits};
 ghost use Rattle.m11_asm_outcome_laws.specs.FirstFaults.{IsRefusedAfter};
 ghost use Rattle.m11_asm_outcome_laws.specs.Numbers.{HaveNumbers};
 ghost use Rattle.m11_asm_passes.specs.Lines.{NumberedLine, PassLines, givens};
@@ -32,7 +32,7 @@ pub fn the_lines_of_a_pass_are_those_of_the_whole_source()
     ensures so_far { (map : Map) (counting : Counting) (source more : List SourceLine) (lines : List NumberedLine) (stage : Stage)
         → PassLines map counting source lines stage → AreLines map (source ++ more) (givens lines) (with_more more stage) }
     ensures limits { (map : Map) (counting : Counting) (source : List SourceLine) (lines : List NumberedLine) (stage : Stage)
-        → PassLines map counting source lines stage → KeepLimits map first_table counting (givens lines) }
+        → PassLines map counting source lines stage → AreWithinLimits map first_table counting (givens lines) }
     ensures all { (map : Map) (counting : Counting) (all source : List SourceLine) (lines : List NumberedLine) (stage : Stage)
         (end : EndsAfter map counting all source lines stage) → AreAllLines map all (givens lines) (with_more end.more stage) }
     ensures numbers { (map : Map) (counting : Counting) (source more : List SourceLine) (lines : List NumberedLine) (stage : Stage)
@@ -54,7 +54,7 @@ pub fn a_reading_is_refused_by_the_first_limit_of_the_whole_source()
 /// them. A pass that ends has no other live lines.
 pub fn a_pass_has_the_lines_of_the_whole_source()
     ensures ends { (map : Map) (counting : Counting) (all : List SourceLine) (gives : List UnfoldedLine) (stage : Stage)
-        → AreAllLines map all gives stage → KeepLimits map first_table counting gives → EndsWith map counting all gives }
+        → AreAllLines map all gives stage → AreWithinLimits map first_table counting gives → EndsWith map counting all gives }
     ensures just_these { (map : Map) (counting : Counting) (all source : List SourceLine) (lines : List NumberedLine)
         (gives : List UnfoldedLine) (stage after : Stage) → EndsAfter map counting all source lines stage → AreAllLines map all gives after
         → givens lines ≡ gives }

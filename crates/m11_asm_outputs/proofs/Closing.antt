@@ -10,7 +10,7 @@ use Rattle.m11_obj.proofs.TextCuts.{begins, closes, goes_in}
 use Rattle.m11_obj.proofs.RecordCuts.{row_closes, row_goes_in}
 use Rattle.m11_obj.specs.Directory as directory
 use Rattle.m11_obj.specs.Fronts.{fronts_of}
-use Rattle.m11_obj.specs.OpenText.{IsOpenText, last_section, records_in, takes_in, with_piece}
+use Rattle.m11_obj.specs.OpenText.{IsOpenText, last_section, records_in, has_room_for, with_piece}
 use Rattle.m11_obj.specs.Texts.{TextParts, records_of, text_of, text_records, texts_after}
 use Rattle.m11_obj.specs.declared.directory.DirectoryRow.{DirectoryRow}
 use Rattle.m11_obj.specs.declared.pieces.Piece.{Piece}
@@ -59,9 +59,9 @@ one_more pieces written None p h = record {
   text = Some (text_of None p []);
   stands = begins pieces written p (text_of None p []) h refl;
 }
-one_more pieces written (Some text) p h = by_test (takes_in text p) refl
+one_more pieces written (Some text) p h = by_test (has_room_for text p) refl
   where
-    by_test : (b : Bool) → takes_in text p ≡ b → Grown (pieces ++ p ∷ []) written
+    by_test : (b : Bool) → has_room_for text p ≡ b → Grown (pieces ++ p ∷ []) written
     by_test true e = record {
       more = [];
       text = Some (with_piece text p);

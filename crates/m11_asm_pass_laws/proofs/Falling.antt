@@ -22,7 +22,7 @@ use Rattle.m11_asm_passes.proofs.Counting.{act_takes, used_takes}
 use Rattle.m11_unfold_rules.specs.Acting.{Acted, Operation, Calls, OwnDirective, Foreign, act, acted_by, operation}
 use Rattle.m11_unfold_rules.specs.Limits.{has_room, most_lines, next_fault}
 use Rattle.m11_unfold_rules.specs.Stages.{Opening, Purpose, Defines, Repeats, Drops, Stage}
-use Rattle.m11_unfold_rules.specs.Taking.{Live, Move, NothingLeft, Passes, Gives, into_body, line_taken, move, nesting, one_taken, opened, skipped}
+use Rattle.m11_unfold_rules.specs.Taking.{Live, Move, NothingLeft, Passes, Gives, into_body, line_move, move, nesting, one_taken, opened, skipped}
 use Rattle.m11_unfold_rules.proofs.Cases.{fault_from, live_or_skipped, move_from, taking_fault, with_statement}
 use Rattle.m11_asm_pass_laws.proofs.Counting as counting
 
@@ -122,7 +122,7 @@ live_falls (Some conditions) line left stage room = omega (arith, room)
 live_falls None line left stage room = omega (arith, room)
 
 line_falls : (opening : Option Opening) (line : SourceLine) (left : List RemainingItem) (stage : Stage) → stage.taken < most_lines
-    → Falls (2 * (most_lines - stage.taken) + depth left) (line_taken opening line (one_taken left stage))
+    → Falls (2 * (most_lines - stage.taken) + depth left) (line_move opening line (one_taken left stage))
 line_falls (Some opening) line left stage room =
     let nested = depth_after (nesting line.text) opening.taken.depth in
     let same = used_takes opening.purpose opening.taken line.text nested (one_taken left stage) in
@@ -158,7 +158,7 @@ live_takes : (skipped : Option OpenConditions) (line : SourceLine) (stage : Stag
 live_takes (Some conditions) line stage rests = cc
 live_takes None line stage rests = cc
 
-line_takes : (opening : Option Opening) (line : SourceLine) (stage : Stage) → line_taken opening line stage ≡ NothingLeft → ⊥
+line_takes : (opening : Option Opening) (line : SourceLine) (stage : Stage) → line_move opening line stage ≡ NothingLeft → ⊥
 line_takes (Some opening) line stage rests = cc
 line_takes None line stage rests = live_takes (skipped stage.conditions line.text) line stage rests
 

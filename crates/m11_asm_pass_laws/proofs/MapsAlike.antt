@@ -40,7 +40,7 @@ use Rattle.m11_asm_rules.specs.Limits.{limit_fault}
 use Rattle.m11_asm_rules.specs.Actions.{Action, Assign, ByteList, Characters, Coded, Operate, PackedText, SetNumber, Storage, Store, Text, TextPart, Transfer, WordList}
 use Rattle.m11_asm_rules.specs.Lines.{after_line, known_end, flags, line_change, line_emission, pieces, emission_by, put_location, stands}
 use Rattle.m11_asm_rules.specs.Operations.{action, operation}
-use Rattle.m11_asm_rules.specs.Meanings.{Map, defined_or, known_at, flag_D, meaning_of, quantity_of, stands_for, undefined}
+use Rattle.m11_asm_rules.specs.Meanings.{Map, defined_or, known_at, flag_D, meaning_of, quantity_of, value_of_symbol, undefined}
 use Rattle.m11_asm_rules.specs.SymbolUses.{symbol_uses}
 use Rattle.m11_asm_rules.specs.Storage as storage
 use Rattle.m11_asm_rules.specs.Strings as strings
@@ -78,7 +78,7 @@ module _ (one other : Map) (same : MapsAgree one other) where
       ap (λ (q : Quantity). defined_or key table.doubly_defined q (last_definition key table.definitions)) (map_same key unknown)
 
   symbol_same : (context : Context) (table : Table) (here : ℕ) (symbol : Symbol)
-      → stands_for one context table here symbol ≡ stands_for other context table here symbol
+      → value_of_symbol one context table here symbol ≡ value_of_symbol other context table here symbol
   symbol_same context table here (Ordinary name) = meaning_same (undefined context (Ordinary name)) table (Named name)
   symbol_same context table here (Local number) =
       meaning_same (undefined context (Local number)) table (Numbered table.modes.block number)

@@ -27,7 +27,7 @@ use Rattle.m11_asm_rules.specs.Items.{action_items, is_shown}
 use Rattle.m11_asm_rules.specs.Actions as actions
 use Rattle.m11_asm_rules.specs.Operations.{action, operation}
 use Rattle.m11_asm_rules.specs.Lines.{after_line, change_of, emission_by, line_emission, put_location, stands}
-use Rattle.m11_asm_rules.specs.Meanings.{Map, empty_map, stands_for}
+use Rattle.m11_asm_rules.specs.Meanings.{Map, empty_map, value_of_symbol}
 use Rattle.m11_asm_rules.specs.declared.meanings.Context.TheVariants.{LocalOnly}
 use Rattle.m11_asm_rules.specs.Tables.{Table, firm_table, first_table, location, section_name}
 use Rattle.m11_asm_rules.specs.Unfolded.{known_after_labels}
@@ -41,7 +41,7 @@ use Rattle.m11_asm_lines.specs.declared.actions.Operation.{Operation}
 use Rattle.m11_asm_rules.specs.Asking.{FirmContext, firm_asked}
 use Rattle.m11_asm_passes.proofs.Placing.{Act, IsActOf, after_so, counting_so, defined_refused, line_fits, operation_so, put_so, remarks_so, sections_refused, shown_so, stage_so, uses_refused}
 use Rattle.m11_asm_lines.proofs.Room.{few_of_both}
-use Rattle.m11_asm_lines.specs.Actions.{action_in, after_action, operation_seen}
+use Rattle.m11_asm_lines.specs.Actions.{action_in, after_action, operation_model}
 use Rattle.m11_asm_passes.specs.Begun.{Begins, Finishes, States}
 use Rattle.m11_asm_passes.specs.Faults.{Fails}
 use Rattle.m11_asm_lines.specs.Faults.{Overfills, Refuses}
@@ -78,13 +78,13 @@ module _ (unfolder : UnfolderState) (table : Table) (counting before : Counting)
 
 pub acts_told : (names : FirmContext) (table : Table) (at : ℕ) (text : Bytes) (before after : Stage) (result : Result Acting UnfoldFault)
     → names ≡ firm_asked table at → at ≡ location table
-    → Acts (known_by names.table.modes.radix (stands_for empty_map LocalOnly (firm_table names.table) names.location)) text before after result
+    → Acts (known_by names.table.modes.radix (value_of_symbol empty_map LocalOnly (firm_table names.table) names.location)) text before after result
     → Acts (known_after_labels table) text before after result
 acts_told names table at text before after result is there acts =
     let P : FirmContext → Type 0 = λ n.
-    Acts (known_by n.table.modes.radix (stands_for empty_map LocalOnly (firm_table n.table) n.location)) text before after result in
+    Acts (known_by n.table.modes.radix (value_of_symbol empty_map LocalOnly (firm_table n.table) n.location)) text before after result in
     let Q : ℕ → Type 0 = λ p.
-    Acts (known_by table.modes.radix (stands_for empty_map LocalOnly (firm_table table) p)) text before after result in
+    Acts (known_by table.modes.radix (value_of_symbol empty_map LocalOnly (firm_table table) p)) text before after result in
     subst Q there (subst P is acts)
 
 -- ---- one line
@@ -118,7 +118,7 @@ module _ (map_ : Map) (live : Live) (old middle : PassState) (does : Operation) 
     arguments_are = begins.acts.4;
   }
 
-  same_operation : operation_seen text does ≡ operation line.is_own line.arguments text
+  same_operation : operation_model text does ≡ operation line.is_own line.arguments text
   same_operation =
       begins.operation_is ∙ operation_so map_ old.table live before middle.unfolder.stage done stood old.counting begins.labels.table acts
 

@@ -33,7 +33,7 @@ use Rattle.m11_asm_rules.specs.Meanings.{Map}
 use Rattle.m11_asm_rules.specs.declared.meanings.Context.TheVariants.{LocalOnly}
 use Rattle.m11_asm_rules.specs.SymbolUses.{SymbolUse, action_uses, label_uses, symbol_use, symbol_uses}
 use Rattle.m11_asm_rules.specs.Tables.{Table, firm_table, location, section_name}
-use Rattle.m11_asm_lines.specs.Actions.{action_seen}
+use Rattle.m11_asm_lines.specs.Actions.{action_model}
 use Rattle.m11_asm_lines.proofs.Room.{few_of_both}
 use Rattle.m11_asm_lines.specs.Counting.{names_counted, with_counted}
 use Rattle.m11_asm_lines.specs.declared.counting.Counting.{Counting}
@@ -160,7 +160,7 @@ module _ (live : Live) (stage : Stage) (blank : IsBlank live.line.text) (table :
   -- ---- the line is placed
 
   pub live_so : (here : LiveLine) → live_in here ≡ live → here.operation.action ≡ code.NoAction → IsLive line here
-  live_so here same rests = record { live_is = same; action_is = ap (action_seen text here.operation.arguments) rests ∙ sym action_so }
+  live_so here same rests = record { live_is = same; action_is = ap (action_model text here.operation.arguments) rests ∙ sym action_so }
 
   pub placed_so : (map_ : Map) (placed : PlacedLine) (emission : Emission) → live_in placed.live ≡ live
       → placed.live.operation.action ≡ code.NoAction → emission ≡ nothing 0

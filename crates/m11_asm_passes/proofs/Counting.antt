@@ -13,7 +13,7 @@ use Rattle.m11_unfold_rules.specs.Immediate as immediate
 use Rattle.m11_unfold_rules.specs.Acting.{Acted, Operation, Calls, OwnDirective, Foreign, act, acted_by, operation}
 use Rattle.m11_unfold_rules.specs.Limits.{has_room}
 use Rattle.m11_unfold_rules.specs.Stages.{Opening, Purpose, Defines, Repeats, Drops, Stage}
-use Rattle.m11_unfold_rules.specs.Taking.{Live, Move, NothingLeft, Passes, Gives, into_body, line_taken, move, nesting, one_taken, skipped}
+use Rattle.m11_unfold_rules.specs.Taking.{Live, Move, NothingLeft, Passes, Gives, into_body, line_move, move, nesting, one_taken, skipped}
 use Rattle.m11_unfold_rules.specs.Unfolding.{UnfoldedLine, Leads}
 use Rattle.m11_unfold_rules.specs.Unfolding as steps
 use Rattle.m11_unfold_rules.proofs.Cases.{live_or_skipped, move_from, with_statement}
@@ -38,7 +38,7 @@ skipped_takes (Some conditions) line left stage = omega arith
 skipped_takes None line left stage = omega arith
 
 line_takes : (opening : Option Opening) (line : SourceLine) (left : List RemainingItem) (stage : Stage)
-    → Takes stage.taken (line_taken opening line (one_taken left stage))
+    → Takes stage.taken (line_move opening line (one_taken left stage))
 line_takes (Some opening) line left stage =
     let same = used_takes opening.purpose opening.taken line.text (depth_after (nesting line.text) opening.taken.depth)
     (one_taken left stage) in

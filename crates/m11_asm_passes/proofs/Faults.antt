@@ -10,7 +10,7 @@ use Rattle.m11_unfold_rules.specs.Stages.{Stage}
 use Rattle.m11_unfold_rules.specs.Taking.{Live}
 use Rattle.m11_unfold_rules.specs.declared.fault.UnfoldFault.{UnfoldFault}
 use Rattle.m11_unfold_rules.specs.declared.fault.UnfoldFault.TheVariants as limit
-use Rattle.m11_asm_rules.specs.Labels.{labels_stand}
+use Rattle.m11_asm_rules.specs.Labels.{after_labels_in}
 use Rattle.m11_asm_rules.specs.Limits as limits
 use Rattle.m11_asm_rules.specs.Limits.{LimitFault, has_too_many, limit_fault, most_names}
 use Rattle.m11_asm_rules.specs.Lines.{after_line}
@@ -57,7 +57,7 @@ line_fault_is_of_pass map_ table counting live stage fault is =
     subst P is
     (first_or (labels_fault counting table live.line.text) (option_or acting placing)
     (symbols_if (nat_lt most_names (length (names_counted (with_counted (uses_of_labels live.line.text) counting)))
-    || has_too_many (labels_stand table live.line.text)))
+    || has_too_many (after_labels_in table live.line.text)))
     (first_or acting placing (acts (act_fault stage live.line.text))
     (places (limit_fault (names_counted (with_counted (symbol_uses table (given_by table live stage)) counting))
     (after_line map_ table (given_by table live stage))))))

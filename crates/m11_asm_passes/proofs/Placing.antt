@@ -15,7 +15,7 @@ use Rattle.m11_unfold_bodies.specs.Left.{argument_count}
 use Rattle.m11_asm_rules.specs.Assignments.{assigned, with_assigned}
 use Rattle.m11_asm_rules.specs.Changes.{Change, Keeps, Counts, Selects, Assigns, Numbers, Exports, Sets, becomes_global, changed, numbered}
 use Rattle.m11_asm_rules.specs.Definitions.{is_labelled}
-use Rattle.m11_asm_rules.specs.Labels.{global_if, labels_stand, with_definition, with_doubly_defined}
+use Rattle.m11_asm_rules.specs.Labels.{global_if, after_labels_in, with_definition, with_doubly_defined}
 use Rattle.m11_asm_rules.specs.declared.definitions.Key.TheVariants.{Named}
 use Rattle.m11_asm_rules.specs.Items.{action_items, assigned_items}
 use Rattle.m11_asm_rules.specs.Limits as limits
@@ -155,7 +155,7 @@ pub record IsActOf (known : KnownSymbols) (text : Bytes) (before after : Stage) 
   pub arguments_are : done.arguments ≡ argument_count before.left
 
 module _ (map_ : Map) (table : Table) (live : Live) (before after : Stage) (done : Act) (stood : Table) (counting : Counting)
-    (stand : stood ≡ labels_stand table live.line.text) (acts : IsActOf (known_after_labels stood) live.line.text before after done) where
+    (stand : stood ≡ after_labels_in table live.line.text) (acts : IsActOf (known_after_labels stood) live.line.text before after done) where
   abbrev text : Bytes
   text = live.line.text
 

@@ -15,7 +15,7 @@ use Rattle.m11_asm_rules.specs.Items.{assigned_items}
 use Rattle.m11_asm_rules.specs.Operations.{operation}
 use Rattle.m11_asm_rules.specs.Meanings.{Map}
 use Rattle.m11_asm_rules.specs.Unfolded.{known_after_labels}
-use Rattle.m11_asm_lines.specs.Actions.{IsRead, operation_seen}
+use Rattle.m11_asm_lines.specs.Actions.{IsRead, operation_model}
 use Rattle.m11_asm_lines.specs.Counting.{with_counted}
 use Rattle.m11_asm_lines.specs.declared.actions.Operation.{Operation}
 use Rattle.m11_asm_passes.specs.Faults.{Fails}
@@ -37,7 +37,7 @@ pub record Begins (map : Map) (live : Live) (old new : PassState) (does : Operat
   pub labels : LabelsLie map old.counting live.line.text old.table new.table begun.found
   pub named : new.counting ≡ with_counted (uses_of_labels live.line.text) old.counting
   pub acts : Acts (known_after_labels new.table) live.line.text old.unfolder.stage new.unfolder.stage (Ok begun.act)
-  pub operation_is : operation_seen live.line.text does ≡ operation begun.act.is_own begun.act.arguments live.line.text
+  pub operation_is : operation_model live.line.text does ≡ operation begun.act.is_own begun.act.arguments live.line.text
   pub is_read : IsRead new.table live.line.text does
 
 -- the second half of handling a live line: the line is placed, with the item that a listing shows of its assignment, if it has one; or the

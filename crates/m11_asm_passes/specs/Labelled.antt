@@ -4,7 +4,7 @@ use Rattle.std.specs.Prelude.{◌≡◌, ◌≤◌, ◌⊎◌, false, None, leng
 use Rattle.std.specs.List.{flat_map}
 use Rattle.m11_base.specs.Devices.{Bytes}
 use Rattle.m11_scan_statements.specs.Labels.{labels_at}
-use Rattle.m11_asm_rules.specs.Labels.{labels_flags, labels_stand, with_labels}
+use Rattle.m11_asm_rules.specs.Labels.{labels_flags, after_labels_in, with_labels}
 use Rattle.m11_asm_rules.specs.Limits.{has_too_many, most_names}
 use Rattle.m11_asm_rules.specs.Meanings.{Map}
 use Rattle.m11_asm_rules.specs.SymbolUses.{label_uses}
@@ -19,7 +19,7 @@ use Rattle.m11_asm_passes.specs.Refusals.{labels_fault, uses_of_labels}
 -- the labels of a line exceed no limit; the new table is the one after them, and these are their flags
 pub record LabelsLie (map : Map) (counting : Counting) (line : Bytes) (old new : Table) (flags : LabelFlags) : Type 0 where
   pub fits : labels_fault counting old line ≡ None
-  pub table : new ≡ labels_stand old line
+  pub table : new ≡ after_labels_in old line
   pub are : AreFlags flags (labels_flags line old (labels_at line)) (moved_flags map line old (labels_at line))
 
 -- if memory is refused at a label, the names counted up to and including that label are within their limit; or the names of all labels of

@@ -13,7 +13,7 @@ use Rattle.m11_unfold_rules.specs.Acting.{act_fault}
 use Rattle.m11_unfold_rules.specs.Stages.{Stage}
 use Rattle.m11_unfold_rules.specs.Taking.{Live}
 use Rattle.m11_unfold_rules.specs.Unfolding.{UnfoldedLine, given}
-use Rattle.m11_asm_rules.specs.Labels.{labels_stand}
+use Rattle.m11_asm_rules.specs.Labels.{after_labels_in}
 use Rattle.m11_asm_rules.specs.Limits as limits
 use Rattle.m11_asm_rules.specs.Limits.{LimitFault, has_too_many, limit_fault, most_names}
 use Rattle.m11_asm_rules.specs.Lines.{after_line}
@@ -37,13 +37,13 @@ uses_of_labels line = flat_map (label_uses line) (labels_at line)
 abbrev pub labels_fault : Counting → Table → Bytes → Option AsmFault
 labels_fault counting table line =
     if nat_lt most_names (length (names_counted (with_counted (uses_of_labels line) counting)))
-    || has_too_many (labels_stand table line) then Some TooManySymbols else None
+    || has_too_many (after_labels_in table line) then Some TooManySymbols else None
 
 -- ---- a line
 
 -- a live line, with the symbols known from the table before it and from its own labels
 abbrev pub given_by : Table → Live → Stage → UnfoldedLine
-given_by table live stage = given (known_after_labels (labels_stand table live.line.text)) live stage
+given_by table live stage = given (known_after_labels (after_labels_in table live.line.text)) live stage
 
 abbrev pub placing_fault : Map → Table → Counting → UnfoldedLine → Option AsmFault
 placing_fault map table counting given =

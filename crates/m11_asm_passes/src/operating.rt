@@ -3,7 +3,7 @@
 ghost use Rattle.std.specs.Prelude.{◌≡◌, IfOk, IfErr, map};
 ghost use Rattle.std.specs.Option.{option_to_list};
 ghost use Rattle.m11_base.specs.Devices.{Bytes};
-ghost use Rattle.m11_asm_operands.specs.Reads.{fields_seen};
+ghost use Rattle.m11_asm_operands.specs.Reads.{fields_model};
 ghost use Rattle.m11_asm_rules.specs.Items.{action_items, is_shown};
 ghost use Rattle.m11_asm_rules.specs.Lines.{emission_by, put_location};
 ghost use Rattle.m11_asm_rules.specs.Tables.{Table as LineTable, location, section_name};
@@ -62,7 +62,7 @@ fn use_line(
     remarks: &Remarks,
     operation: &Operation,
 ) -> Result<(), AsmFault>
-    ensures { (table : LineTable) → fields_seen line.now.text operation.now.fields ≡ action_fields table line.now.text operation.now.action
+    ensures { (table : LineTable) → fields_model line.now.text operation.now.fields ≡ action_fields table line.now.text operation.now.action
         → Adds (uses_after table line.now.text remarks.now (action_in line.now.text operation.now)) used_symbols.old used_symbols.new result }
 {
     use_read(used_symbols, remarks)?;
@@ -78,7 +78,7 @@ pub(crate) fn count_line(
     remarks: &Remarks,
     operation: &Operation,
 ) -> Result<(), AsmFault>
-    ensures { (table : LineTable) → fields_seen line.now.text operation.now.fields ≡ action_fields table line.now.text operation.now.action
+    ensures { (table : LineTable) → fields_model line.now.text operation.now.fields ≡ action_fields table line.now.text operation.now.action
         → Counts (uses_after table line.now.text remarks.now (action_in line.now.text operation.now)) counting.old counting.new result }
 {
     match counting {

@@ -10,7 +10,7 @@ use Rattle.m11_scan_statements.specs.declared.labels.LabelKind.{LabelKind}
 use Rattle.m11_scan_statements.specs.declared.labels.LabelKind.TheVariants as label
 use Rattle.m11_asm_rules.proofs.NamesByMaps.{firm_option, last_firm}
 use Rattle.m11_asm_rules.specs.Definitions.{Definition, Definitions, Key, Named, Numbered, firm_entry, firm_part, firm_parts, is_defined, is_labelled, is_of_label, is_same_symbol, last_definition, with_last}
-use Rattle.m11_asm_rules.specs.Labels.{global_if, label_name, labelled, labels_stand, with_block, with_definition, with_doubly_defined, with_global, with_key, with_kind, with_label, with_labels, with_name}
+use Rattle.m11_asm_rules.specs.Labels.{global_if, label_name, labelled, after_labels_in, with_block, with_definition, with_doubly_defined, with_global, with_key, with_kind, with_label, with_labels, with_name}
 use Rattle.m11_asm_rules.specs.Tables.{Table, firm_table}
 
 some_firm : (found : Option Definition) → is_some (firm_option found) ≡ is_some found
@@ -95,5 +95,5 @@ all_firm line table (named ∷ labels) =
     all_firm line (with_label line table named) labels
     ∙ ap (λ (t : Table). with_labels line t labels) (kind_firm table (label_name line named) named.kind)
 
-pub labels_firm : (table : Table) (line : List ℕ) → firm_table (labels_stand table line) ≡ labels_stand (firm_table table) line
+pub labels_firm : (table : Table) (line : List ℕ) → firm_table (after_labels_in table line) ≡ after_labels_in (firm_table table) line
 labels_firm table line = all_firm line table (labels_at line)

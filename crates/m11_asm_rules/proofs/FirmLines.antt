@@ -4,7 +4,7 @@ use Rattle.m11_unfold_rules.specs.Unfolding.{UnfoldedLine}
 use Rattle.m11_asm_rules.proofs.FirmChanges.{change_alike}
 use Rattle.m11_asm_rules.proofs.FirmLabels.{labels_firm}
 use Rattle.m11_asm_rules.specs.Changes.{changed}
-use Rattle.m11_asm_rules.specs.Labels.{labels_stand}
+use Rattle.m11_asm_rules.specs.Labels.{after_labels_in}
 use Rattle.m11_asm_rules.specs.Lines.{after_line, line_change, stands}
 use Rattle.m11_asm_rules.specs.Meanings.{Map}
 use Rattle.m11_asm_rules.specs.Placements.{after_lines, table_after}
@@ -14,7 +14,7 @@ pub stands_alike : (given : UnfoldedLine) (first second : Table) → firm_table 
     → firm_table (stands first given) ≡ firm_table (stands second given)
 stands_alike given first second same =
     labels_firm first given.live.line.text
-    ∙ ap (λ (t : Table). labels_stand t given.live.line.text) same
+    ∙ ap (λ (t : Table). after_labels_in t given.live.line.text) same
     ∙ sym (labels_firm second given.live.line.text)
 
 operator_alike : (one other : Map) (given : UnfoldedLine) (first second : Table) → firm_table first ≡ firm_table second

@@ -7,7 +7,7 @@ use Rattle.m11_scan_statements.specs.declared.labels.Label.{Label}
 use Rattle.m11_scan_statements.specs.declared.labels.LabelKind.{LabelKind}
 use Rattle.m11_scan_statements.specs.declared.labels.LabelKind.TheVariants as label
 use Rattle.m11_asm_rules.specs.Definitions.{Key, Named, Numbered, is_defined}
-use Rattle.m11_asm_rules.specs.Labels.{global_if, label_name, labelled, labels_stand, with_block, with_definition, with_doubly_defined, with_kind, with_label, with_labels, with_name}
+use Rattle.m11_asm_rules.specs.Labels.{global_if, label_name, labelled, after_labels_in, with_block, with_definition, with_doubly_defined, with_kind, with_label, with_labels, with_name}
 use Rattle.m11_asm_rules.specs.Sections.{Section}
 use Rattle.m11_asm_rules.specs.Tables.{Table, location}
 
@@ -50,8 +50,8 @@ all_keep line table [] = refl
 all_keep line table (named ∷ labels) =
     all_keep line (with_label line table named) labels ∙ kind_keeps table (label_name line named) named.kind
 
-pub labels_stay : (table : Table) (line : List ℕ) → standing (labels_stand table line) ≡ standing table
+pub labels_stay : (table : Table) (line : List ℕ) → standing (after_labels_in table line) ≡ standing table
 labels_stay table line = all_keep line table (labels_at line)
 
-pub labels_keep : (table : Table) (line : List ℕ) → location (labels_stand table line) ≡ location table
+pub labels_keep : (table : Table) (line : List ℕ) → location (after_labels_in table line) ≡ location table
 labels_keep table line = ap (λ (s : Standing). get_or s.counters s.section 0) (labels_stay table line)

@@ -12,7 +12,7 @@ use Rattle.m11_scan_expressions.specs.Symbols.{AgreeOn}
 use Rattle.m11_scan_expressions.specs.Terms.{plain_item, Atom, Item, atom_of, symbol_in}
 use Rattle.m11_scan_expressions.specs.Values.{value_of}
 use Rattle.m11_asm_rules.specs.Definitions.{Definition, Definitions, Key, Keys, Named, Numbered, firm_entry, firm_part, firm_parts, is_same_symbol, last_definition}
-use Rattle.m11_asm_rules.specs.Meanings.{AreFirm, Context, LocalOnly, Map, defined_or, empty_map, firm_known, is_firm, is_firm_in, known_at, stands_for, undefined}
+use Rattle.m11_asm_rules.specs.Meanings.{AreFirm, Context, LocalOnly, Map, defined_or, empty_map, firm_known, is_firm, is_firm_in, known_at, value_of_symbol, undefined}
 use Rattle.m11_asm_rules.specs.Tables.{Table, firm_table}
 
 -- ---- symbols
@@ -49,7 +49,7 @@ meaning_alike key doubly_defined definitions one other firm =
     rw (last_firm key definitions) (firm_alike key doubly_defined one other (last_definition key definitions) firm)
 
 pub symbol_alike : (map : Map) (context : Context) (table : Table) (location : ℕ) (symbol : Symbol) → is_firm table symbol ≡ true
-    → stands_for map context table location symbol ≡ stands_for empty_map LocalOnly (firm_table table) location symbol
+    → value_of_symbol map context table location symbol ≡ value_of_symbol empty_map LocalOnly (firm_table table) location symbol
 symbol_alike map context table location (Ordinary name) firm =
     meaning_alike (Named name) table.doubly_defined table.definitions
     (defined_or (Named name) map.doubly_defined (undefined context (Ordinary name)) (last_definition (Named name) map.definitions))
@@ -62,7 +62,7 @@ symbol_alike map context table location (Local number) firm =
 symbol_alike map context table location Counter firm = refl
 
 symbols_alike : (map : Map) (context : Context) (table : Table) (location : ℕ) (symbols : List Symbol) → AreFirm table symbols
-    → AgreeOn symbols (stands_for map context table location) (stands_for empty_map LocalOnly (firm_table table) location)
+    → AgreeOn symbols (value_of_symbol map context table location) (value_of_symbol empty_map LocalOnly (firm_table table) location)
 symbols_alike map context table location [] firm = tt
 symbols_alike map context table location (symbol ∷ symbols) firm =
     (symbol_alike map context table location symbol firm.0, symbols_alike map context table location symbols firm.1)
@@ -85,5 +85,5 @@ pub value_alike : (map : Map) (context : Context) (table : Table) (location : �
     → expressions.value (known_at map context table location) tokens ≡ expressions.value (firm_known table location) tokens
 value_alike map context table location tokens firm =
     ap (λ (l : List Item). value_of table.modes.radix l)
-    (items_agree (stands_for map context table location) (stands_for empty_map LocalOnly (firm_table table) location) tokens
+    (items_agree (value_of_symbol map context table location) (value_of_symbol empty_map LocalOnly (firm_table table) location) tokens
     (symbols_alike map context table location (expressions.symbols tokens) firm))

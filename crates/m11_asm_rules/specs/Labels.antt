@@ -72,8 +72,8 @@ abbrev pub with_labels : Bytes → Table → List Label → Table
 with_labels line table labels = fold (with_label line) table labels
 
 -- the table after the labels of a line
-abbrev pub labels_stand : Table → Bytes → Table
-labels_stand table line = with_labels line table (labels_at line)
+abbrev pub after_labels_in : Table → Bytes → Table
+after_labels_in table line = with_labels line table (labels_at line)
 
 -- M for a label whose key is already defined
 abbrev pub key_flags : Table → Key → ℕ

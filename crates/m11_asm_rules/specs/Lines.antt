@@ -17,7 +17,7 @@ use Rattle.m11_asm_rules.specs.Changes.{Change, Exports, Keeps, Numbers, Selects
 use Rattle.m11_asm_rules.specs.Contents.{Emission, nothing, pieces_from}
 use Rattle.m11_asm_rules.specs.Effects.{instruction_change, instruction_emission, is_even, storage_change, storage_emission}
 use Rattle.m11_asm_rules.specs.Exports.{expression_flags, transfer}
-use Rattle.m11_asm_rules.specs.Labels.{labels_flags, labels_stand, one_more}
+use Rattle.m11_asm_rules.specs.Labels.{labels_flags, after_labels_in, one_more}
 use Rattle.m11_asm_rules.specs.Meanings.{Map}
 use Rattle.m11_asm_rules.specs.Operations.{action, operation}
 use Rattle.m11_asm_rules.specs.Psects.{differing_flags, known_section, with_attributes}
@@ -44,7 +44,7 @@ change_of table line (Operate operation start) = instruction_change table line o
 change_of table line other = Keeps
 
 abbrev pub stands : Table → UnfoldedLine → Table
-stands table given = labels_stand table given.live.line.text
+stands table given = after_labels_in table given.live.line.text
 
 unfoldable pub line_change : Table → UnfoldedLine → Change
 line_change firm given =

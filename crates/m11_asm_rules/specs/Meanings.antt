@@ -58,16 +58,16 @@ meaning_of map other table key =
     (last_definition key table.definitions)
 
 -- the value of a symbol, where `.` is this location
-abbrev pub stands_for : Map → Context → Table → ℕ → Symbol → Quantity
-stands_for map context table location (Ordinary name) =
+abbrev pub value_of_symbol : Map → Context → Table → ℕ → Symbol → Quantity
+value_of_symbol map context table location (Ordinary name) =
     meaning_of map (undefined context (Ordinary name)) table (Named name)
-stands_for map context table location (Local number) =
+value_of_symbol map context table location (Local number) =
     meaning_of map (undefined context (Local number)) table (Numbered table.modes.block number)
-stands_for map context table location Counter = record { number = location; kind = kind_here table; flags = 0 }
+value_of_symbol map context table location Counter = record { number = location; kind = kind_here table; flags = 0 }
 
 abbrev pub known_at : Map → Context → Table → ℕ → expressions.KnownSymbols
 known_at map context table location =
-    expressions.known_by table.modes.radix (stands_for map context table location)
+    expressions.known_by table.modes.radix (value_of_symbol map context table location)
 
 -- the symbols on which sizes, locations, conditions and repeats depend: `.`, and those with a firm definition in the preceding lines; any
 -- other symbol counts as 0, flagged U

@@ -12,7 +12,7 @@ ghost use Rattle.m11_asm_rules.specs.Equation.{AreAlike, Solves};
 ghost use Rattle.m11_asm_rules.specs.Filling.{Fills, gap_before};
 ghost use Rattle.m11_asm_rules.specs.Bounds.{AreBelowGreatest, IsInWidth};
 ghost use Rattle.m11_asm_rules.specs.History.{SaysWhatTheySaid, definitions_of, moves_of};
-ghost use Rattle.m11_asm_rules.specs.Labels.{labels_stand};
+ghost use Rattle.m11_asm_rules.specs.Labels.{after_labels_in};
 ghost use Rattle.m11_asm_rules.specs.Lines.{line_change, line_emission};
 ghost use Rattle.m11_asm_rules.specs.Operations.{action};
 ghost use Rattle.m11_asm_rules.specs.Meanings.{AreFirm, Context, Map, firm_known, known_at};
@@ -31,7 +31,7 @@ ghost use Rattle.m11_unfold_rules.specs.Limits.{most_lines};
 ghost use Rattle.m11_unfold_rules.specs.Stages.{Stage};
 ghost use Rattle.m11_unfold_rules.specs.Unfolding.{UnfoldedLine};
 
-use m11_scan_statements::labels_and_body_stand_in_order;
+use m11_scan_statements::labels_and_body_are_in_order;
 
 /// If a line moves the counter of its section on, the counter grows by the line's size in bytes, modulo 65536.
 #[tactic(auto, using(crate::proofs::Counters::steps_on))]
@@ -68,7 +68,7 @@ pub fn no_source_reaches_the_greatest_count()
     ensures { (map : Map) (lines : List UnfoldedLine) → AllByRecursion IsInWidth lines → length lines ≤ most_lines
         → AreBelowGreatest (table_after map lines).modes }
 {
-    labels_and_body_stand_in_order();
+    labels_and_body_are_in_order();
 }
 
 /// An expression of firm symbols alone has the same value under every map: the value used for sizes and locations. So neither a map nor
@@ -81,7 +81,7 @@ pub fn firm_values_are_those_of_every_map()
 
 /// All labels of a line have the same location: labels don't change the counter.
 pub fn labels_keep_the_counter()
-    ensures { (table : Table) (line : Bytes) → location (labels_stand table line) ≡ location table }
+    ensures { (table : Table) (line : Bytes) → location (after_labels_in table line) ≡ location table }
 {}
 
 /// An operand adds at most one word after the code word.

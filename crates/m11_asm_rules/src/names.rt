@@ -5,7 +5,7 @@ ghost use Rattle.m11_scan.specs.Views.{bits_of};
 ghost use Rattle.m11_scan.specs.ErrorFlags.{flag_if};
 ghost use Rattle.m11_scan_expressions.specs.Quantities.{absolute, quantity};
 ghost use Rattle.m11_asm_rules.specs.Contents.{register_flags};
-ghost use Rattle.m11_asm_rules.specs.Meanings.{empty_map, flag_D, meaning_of, quantity_of, stands_for, undefined};
+ghost use Rattle.m11_asm_rules.specs.Meanings.{empty_map, flag_D, meaning_of, quantity_of, value_of_symbol, undefined};
 ghost use Rattle.m11_asm_rules.specs.declared.meanings.Context.TheVariants.{LocalOnly};
 ghost use Rattle.m11_asm_rules.specs.Tables.{firm_table, kind_here};
 ghost use Rattle.m11_asm_rules.specs.Definitions.{firm_standing};
@@ -56,7 +56,7 @@ impl<'a> NamesAt<'a> {
 impl<'a> Names for NamesAt<'a> {
     ghost base = { λ n. n.table.modes.radix };
 
-    ghost stands_for = { λ n symbol. stands_for n.map n.context n.table n.location symbol };
+    ghost value_of_symbol = { λ n symbol. value_of_symbol n.map n.context n.table n.location symbol };
 
     fn radix(&self) -> Radix {
         self.table.modes().radix
@@ -108,7 +108,7 @@ impl<'a> FirmNames<'a> {
 impl<'a> Names for FirmNames<'a> {
     ghost base = { λ n. n.table.modes.radix };
 
-    ghost stands_for = { λ n symbol. stands_for empty_map LocalOnly (firm_table n.table) n.location symbol };
+    ghost value_of_symbol = { λ n symbol. value_of_symbol empty_map LocalOnly (firm_table n.table) n.location symbol };
 
     fn radix(&self) -> Radix {
         self.table.modes().radix
@@ -170,7 +170,7 @@ fn undefined(context: Context, symbol: Symbol) -> Value
 }
 
 // The value of a definition that was found, flagged D if its key is doubly defined; `other` if none was found.
-fn given_or(found: Option<&Definition>, is_doubly_defined: bool, other: Value) -> Value
+fn value_or(found: Option<&Definition>, is_doubly_defined: bool, other: Value) -> Value
     ensures { quantity result ≡ given_by is_doubly_defined (quantity other) (option_copied found.entry) }
 {
     match found {
@@ -188,7 +188,7 @@ fn meaning_of(map: &Map<'_>, other: Value, table: &Table, key: &Key) -> Value
 {
     match table.definition(key) {
         Some(definition) => value_of(definition.standing, table.is_doubly_defined(key)),
-        None => given_or(map.definition(key), map.is_doubly_defined(key), other),
+        None => value_or(map.definition(key), map.is_doubly_defined(key), other),
     }
 }
 

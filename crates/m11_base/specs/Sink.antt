@@ -30,5 +30,5 @@ abbrev pub handed_on : Option Bytes → ℕ → Option Bytes
 handed_on text held = option_map (λ bytes. take (length bytes - held) bytes) text
 
 -- a known text grew by a prefix of the bytes, perhaps by none or by all of them
-abbrev pub AppendsBeginning : Option Bytes → Option Bytes → Bytes → Type 0
-AppendsBeginning old new bytes = (part : Bytes) × (rest : Bytes) × (bytes ≡ part ++ rest) × Appends old new part
+abbrev pub AppendsPrefix : Option Bytes → Option Bytes → Bytes → Type 0
+AppendsPrefix old new bytes = (part : Bytes) × (rest : Bytes) × (bytes ≡ part ++ rest) × Appends old new part

@@ -59,7 +59,7 @@ impl<R: Read> Feed for BufferedFeed<R> {
             self.faults += 1;
             return Err(DeviceFault);
         }
-        match take_byte(&mut self.reader) {
+        match consume_byte(&mut self.reader) {
             Ok(Some(byte)) => {
                 self.budget -= 1;
                 Ok(Some(byte))
@@ -91,7 +91,7 @@ impl<R: Read> Feed for BufferedFeed<R> {
 // Reads the next byte; `None` is the end. Most bytes are in the buffer already.
 #[tactic(auto, using(crate::proofs::Fronts::front_taken))]
 #[inline(always)]
-fn take_byte<R: Read>(reader: &mut BufReader<R>) -> Result<Option<u8>, DeviceFault>
+fn consume_byte<R: Read>(reader: &mut BufReader<R>) -> Result<Option<u8>, DeviceFault>
     ensures { ReadsByte (reader_remaining R.remaining reader.old) (reader_remaining R.remaining reader.new) result }
 {
     match reader.buffer().first().copied() {
@@ -99,14 +99,14 @@ fn take_byte<R: Read>(reader: &mut BufReader<R>) -> Result<Option<u8>, DeviceFau
             reader.consume(1);
             Ok(Some(byte))
         }
-        None => fill_and_take(reader),
+        None => fill_and_read(reader),
     }
 }
 
 // Reads the next byte, and fills the buffer first if it is empty; `None` is the end. An interrupted read is tried again.
 // speed: a function of its own, so that its caller can be inlined.
 #[inline(never)]
-fn fill_and_take<R: Read>(reader: &mut BufReader<R>) -> Result<Option<u8>, DeviceFault>
+fn fill_and_read<R: Read>(reader: &mut BufReader<R>) -> Result<Option<u8>, DeviceFault>
     ensures { ReadsByte (reader_remaining R.remaining reader.old) (reader_remaining R.remaining reader.new) result }
 {
     until_done!(take_front(reader))

@@ -166,7 +166,7 @@ impl<S: Sink> Sink for FuseSink<S> {
         ensures counts { Counts self.old.faults self.new.faults result bytes.now }
         ensures last { self.old.faults ≡ last_count → IsErr result }
         ensures limits { IfOk result (λ n. n ≤ self.old.most) }
-        ensures keeps_limit { self.new.most ≡ self.old.most }
+        ensures unchanged_limit { self.new.most ≡ self.old.most }
         ensures spends { self.old.faults ≢ last_count → self.new.calls ≡ self.old.calls - 1 }
         ensures blows { self.old.calls ≡ 0 → IsErr result }
         // if calls are left and the count of failures is below its greatest value, the inner sink was called with at most `most` bytes from
@@ -196,7 +196,7 @@ impl<S: Sink> Sink for FuseSink<S> {
         ensures keeps { Keeps (S.text self.old.sink) (S.text self.new.sink) }
         ensures counts { CountsFlush self.old.faults self.new.faults result }
         ensures last { self.old.faults ≡ last_count → IsErr result }
-        ensures keeps_limit { self.new.most ≡ self.old.most }
+        ensures unchanged_limit { self.new.most ≡ self.old.most }
         ensures spends { self.old.faults ≢ last_count → self.new.calls ≡ self.old.calls - 1 }
         ensures blows { self.old.calls ≡ 0 → IsErr result }
         // if calls are left and the count of failures is below its greatest value, the inner sink was flushed and returned this result

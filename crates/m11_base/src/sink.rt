@@ -3,7 +3,7 @@
 ghost use Rattle.std.specs.Prelude.{◌≡◌, ◌≤◌, ℕ, List, Option, IfOk, IsErr, OnOk, OnErr, length};
 ghost use Rattle.std.specs.Io.KnownBytes.{Appends, Keeps};
 ghost use Rattle.m11_base.specs.Devices.{Rises, last_count};
-ghost use Rattle.m11_base.specs.Sink.{Takes, Counts, CountsFlush, AppendsBeginning};
+ghost use Rattle.m11_base.specs.Sink.{Takes, Counts, CountsFlush, AppendsPrefix};
 
 use crate::fault::{DeviceFault, PutFault};
 
@@ -41,8 +41,8 @@ pub trait Sink {
 pub fn put_all<S: Sink>(sink: &mut S, bytes: &[u8]) -> Result<(), PutFault>
     ensures whole { OnOk result (Appends (S.text sink.old) (S.text sink.new) bytes.now) }
     ensures sound { OnOk result (S.faults sink.new ≡ S.faults sink.old) }
-    ensures beginning { OnErr result
-        (AppendsBeginning (S.text sink.old) (S.text sink.new) bytes.now) }
+    ensures prefix { OnErr result
+        (AppendsPrefix (S.text sink.old) (S.text sink.new) bytes.now) }
     ensures fault { OnErr result (Rises (S.faults sink.old) (S.faults sink.new)) }
 {
     let mut rest = bytes;

@@ -87,14 +87,14 @@ Creates path old new (Ok output) = new ≡ creating (path ∷ []) old
 Creates path old new (Err refusal) = new ≡ old
 
 -- these created files, where the first one at this path, if there is one, now has `text` as its bytes
-abbrev pub kept_among : Bytes → Option Bytes → List CreatedFile → List CreatedFile
-kept_among path text [] = []
-kept_among path text (made ∷ more) =
-    if bytes_eq made.path path then record made { kept = text } ∷ more else made ∷ kept_among path text more
+abbrev pub stored_among : Bytes → Option Bytes → List CreatedFile → List CreatedFile
+stored_among path text [] = []
+stored_among path text (made ∷ more) =
+    if bytes_eq made.path path then record made { kept = text } ∷ more else made ∷ stored_among path text more
 
 abbrev pub keeping : Bytes → Option Bytes → Option Files → Option Files
 keeping path text None = None
-keeping path text (Some files) = Some (record { held = files.held; made = kept_among path text files.made })
+keeping path text (Some files) = Some (record { held = files.held; made = stored_among path text files.made })
 
 -- there is an output if and only if there is a path for it, and the output is empty, if the files are known
 abbrev pub IsEmptiedSome : {O : Type 0} → (O → Option Bytes) → Option Files → Option (Bor Bytes) → Option O → Type 0

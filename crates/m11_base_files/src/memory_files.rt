@@ -1,7 +1,7 @@
 //! Files in memory.
 
 ghost use Rattle.std.specs.Prelude.{◌≡◌, [], Some, map, option_map, position};
-ghost use Rattle.m11_base_files.specs.Opens.{kept_among};
+ghost use Rattle.m11_base_files.specs.Opens.{stored_among};
 ghost use Rattle.m11_base_files.specs.MemoryFiles.{files_of, has_path, held_among, made_of, text_of};
 
 use crate::opens::{OpenRefusal, Opens};
@@ -92,7 +92,7 @@ impl<'a> Opens for MemoryFiles<'a> {
     }
 
     fn keep(&mut self, path: &str, output: MemorySink) {
-        keep_at(self.made.as_mut_slice(), path, output.into_bytes());
+        store_at(self.made.as_mut_slice(), path, output.into_bytes());
     }
 }
 
@@ -114,8 +114,8 @@ fn stored_at<'a>(stored: &'a [MemoryFile], path: &str) -> Option<&'a MemoryFile>
 
 // Stores bytes in the first file created at this path, if there is one.
 #[tactic(auto, using(crate::proofs::Keeping::kept_at, crate::proofs::Keeping::not_kept))]
-fn keep_at(made: &mut [MadeFile], path: &str, bytes: Vec<u8>)
-    ensures { map made_of made.new ≡ kept_among path.now (Some bytes.items) (map made_of made.old) }
+fn store_at(made: &mut [MadeFile], path: &str, bytes: Vec<u8>)
+    ensures { map made_of made.new ≡ stored_among path.now (Some bytes.items) (map made_of made.old) }
 {
     if let Some(index) = index_of(made, path) {
         made[index].kept = Some(bytes);

@@ -2,7 +2,7 @@
 use Rattle.std.specs.Prelude.{◌≡◌, ℕ, Option, Some, None, Result, Ok, Err}
 use Rattle.std.specs.Io.KnownBytes.{Appends}
 use Rattle.m11_base.specs.Devices.{Bytes, Rises}
-use Rattle.m11_base.specs.Sink.{AppendsBeginning}
+use Rattle.m11_base.specs.Sink.{AppendsPrefix}
 use Rattle.m11_base.specs.declared.sink.Sink.{Ghosts}
 
 -- an output: all that it has accepted, if that is known, its count of failures, and how many of the last bytes it still holds back
@@ -28,4 +28,4 @@ optional_output known (Some sink) = output_of known sink
 abbrev pub Puts : {A E : Type 0} → OutputState → OutputState → Bytes → E → Result A E → Type 0
 Puts old new bytes fault (Ok done) = Appends old.text new.text bytes × (new.faults ≡ old.faults)
 Puts old new bytes fault (Err stopped) =
-    (stopped ≡ fault) × AppendsBeginning old.text new.text bytes × Rises old.faults new.faults
+    (stopped ≡ fault) × AppendsPrefix old.text new.text bytes × Rises old.faults new.faults

@@ -16,6 +16,6 @@ pub fn early_ends_leave_beginnings<O, E>()
 
 /// A device has a prefix of what its output has accepted: all of it if nothing is held back.
 pub fn devices_have_beginnings()
-    ensures beginning { (text : List ℕ) (held : ℕ) → (got : List ℕ) × (handed_on (Some text) held ≡ Some got) × (rest : List ℕ) × (text ≡ got ++ rest) }
+    ensures prefix { (text : List ℕ) (held : ℕ) → (got : List ℕ) × (handed_on (Some text) held ≡ Some got) × (rest : List ℕ) × (text ≡ got ++ rest) }
     ensures all { (text : Option (List ℕ)) → handed_on text 0 ≡ text }
 {}

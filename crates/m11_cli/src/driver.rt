@@ -170,7 +170,7 @@ fn run_asm<F: Opens, E: Sink>(
         err,
     );
     files.keep(task.object, object);
-    keep_some(files, task.listing, listing);
+    hand_back_some(files, task.listing, listing);
     returned
 }
 
@@ -226,12 +226,12 @@ fn run_link<F: Opens, E: Sink>(
         err,
     );
     files.keep(task.tape, tape);
-    keep_some(files, task.map, map);
+    hand_back_some(files, task.map, map);
     returned
 }
 
 // Hands the output with this path back to `files`, if there is one.
-fn keep_some<F: Opens>(files: &mut F, path: Option<&str>, output: Option<F::Output>)
+fn hand_back_some<F: Opens>(files: &mut F, path: Option<&str>, output: Option<F::Output>)
     ensures keeps { F.files files.new ≡ keeping_some (λ o. handed_on (F.Output.text o) (F.Output.held o)) path.entry output
         (F.files files.old) }
     ensures counts { F.refusals files.new ≡ F.refusals files.old }

@@ -4,7 +4,7 @@ ghost use Rattle.std.specs.Prelude.{◌≡◌, OnErr, OnOk};
 ghost use Rattle.std.specs.Io.KnownBytes.{Appends};
 ghost use Rattle.m11_asm_faults.specs.declared.fault.AsmFault.TheVariants.{Unfold};
 ghost use Rattle.m11_base.specs.Devices.{Rises};
-ghost use Rattle.m11_base.specs.Sink.{AppendsBeginning};
+ghost use Rattle.m11_base.specs.Sink.{AppendsPrefix};
 ghost use Rattle.m11_link_layout.specs.declared.fault.LinkFault.TheVariants.{Block, Record};
 ghost use Rattle.m11_cli.specs.FaultLines.{asm_line, line_of, link_line};
 
@@ -27,8 +27,8 @@ use m11_unfold_rules::UnfoldFault;
 pub fn fault_line<S: Sink>(outcome: &Outcome, sink: &mut S) -> Result<(), PutFault>
     ensures whole { OnOk result (Appends (S.text sink.old) (S.text sink.new) (line_of outcome.now)) }
     ensures sound { OnOk result (S.faults sink.new ≡ S.faults sink.old) }
-    ensures beginning { OnErr result
-        (AppendsBeginning (S.text sink.old) (S.text sink.new) (line_of outcome.now)) }
+    ensures prefix { OnErr result
+        (AppendsPrefix (S.text sink.old) (S.text sink.new) (line_of outcome.now)) }
     ensures fault { OnErr result (Rises (S.faults sink.old) (S.faults sink.new)) }
 {
     put_all(sink, fault_text(outcome).as_bytes())

@@ -29,7 +29,7 @@ use Rattle.m11_link_modules.specs.Rules.{first_fault}
 use Rattle.m11_cpu_laws.specs.Image.{Image}
 use Rattle.m11_cpu_laws.specs.Loaded.{HoldsImage, LiesInside, LiesPast, LoadYields}
 use Rattle.m11_base_writes.specs.Writes.{gained}
-use Rattle.m11_cli_chain.specs.Chain.{Chains, HasImage, Linked, LinkTakes, StopsLoad, tape_of}
+use Rattle.m11_cli_chain.specs.Chain.{Chains, HasImage, Linked, LinkAccepts, StopsLoad, tape_of}
 use Rattle.m11_asm_passes.specs.Lines.{NumberedLine}
 use Rattle.m11_cli_chain.specs.Sources.{source_of, sources_of}
 use Rattle.m11_cli_chain.specs.Steps.{AreObjectsOf, AssembliesFail, IsTapeOfObjects, LinkFails, LoadFails, LoadsNew}
@@ -97,7 +97,7 @@ module _ (parts_law : PartsLaw) (load_law : LoadLaw) (texts : List (List Bytes))
   own_parts : t.parts ≡ link_parts sources
   own_parts = own_link.parts_are
 
-  takes : LinkTakes bottom sources
+  takes : LinkAccepts bottom sources
   takes = record {
     sound = subst (λ (ps : List Part). first_fault [] ps ≡ None) own_parts own_link.sound;
     low = subst (λ (ps : List Part). is_too_large bottom ps ≡ false) own_parts own_link.low;

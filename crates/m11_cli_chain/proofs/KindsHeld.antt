@@ -38,7 +38,7 @@ use Rattle.m11_asm_rules.specs.declared.meanings.Context.TheVariants.{LocalOnly,
 use Rattle.m11_asm_rules.specs.declared.sections.Section.{Section}
 use Rattle.m11_asm_rules.proofs.LastDefinitions.{last_more}
 use Rattle.m11_asm_rules.specs.Definitions.{Definitions, Keys, first_definitions, is_same, last_definition, no_definitions, registers, with_last}
-use Rattle.m11_asm_rules.specs.Meanings.{Map, defined_or, known_at, meaning_of, quantity_of, stands_for, undefined}
+use Rattle.m11_asm_rules.specs.Meanings.{Map, defined_or, known_at, meaning_of, quantity_of, value_of_symbol, undefined}
 use Rattle.m11_asm_rules.specs.Sections.{is_relocatable, numbered}
 use Rattle.m11_asm_rules.specs.Tables.{Table, kind_here}
 
@@ -143,10 +143,10 @@ module _ (P : Name → Type 0) where
   within_holds (suc bound) radix items h =
       split_holds (λ r i. value_within bound r i) (within_holds bound) radix items (last_operator begin (sorts_of items)) h
 
-  meaning_holds : (stands_for : Symbol → Quantity) → ((symbol : Symbol) → ValueHolds (stands_for symbol)) → (other : Quantity)
-      → ValueHolds other → (found : Option Symbol) → ValueHolds (unwrap_or (option_map stands_for found) other)
-  meaning_holds stands_for all other h (Some symbol) = all symbol
-  meaning_holds stands_for all other h None = h
+  meaning_holds : (value_of_symbol : Symbol → Quantity) → ((symbol : Symbol) → ValueHolds (value_of_symbol symbol)) → (other : Quantity)
+      → ValueHolds other → (found : Option Symbol) → ValueHolds (unwrap_or (option_map value_of_symbol found) other)
+  meaning_holds value_of_symbol all other h (Some symbol) = all symbol
+  meaning_holds value_of_symbol all other h None = h
 
   character_holds : (text : Bytes) → ValueHolds (character text)
   character_holds (mark ∷ first ∷ rest) = tt
@@ -164,29 +164,29 @@ module _ (P : Name → Type 0) where
   packed_holds (mark ∷ []) = tt
   packed_holds [] = tt
 
-  token_holds : (stands_for : Symbol → Quantity) → ((symbol : Symbol) → ValueHolds (stands_for symbol)) → (sort : Sort) (text : Bytes)
-      → AtomHolds (atom_of stands_for sort text)
-  token_holds stands_for all sorts.Name text = meaning_holds stands_for all missing tt (symbol_in sorts.Name text)
-  token_holds stands_for all sorts.LocalSymbol text = meaning_holds stands_for all (absolute 0 _) tt (symbol_in sorts.LocalSymbol text)
-  token_holds stands_for all sorts.Number text = tt
-  token_holds stands_for all sorts.DecimalNumber text = tt
-  token_holds stands_for all sorts.Character text = character_holds text
-  token_holds stands_for all sorts.TwoCharacters text = characters_hold text
-  token_holds stands_for all sorts.Packed text = packed_holds text
-  token_holds stands_for all sort text = tt
+  token_holds : (value_of_symbol : Symbol → Quantity) → ((symbol : Symbol) → ValueHolds (value_of_symbol symbol)) → (sort : Sort) (text : Bytes)
+      → AtomHolds (atom_of value_of_symbol sort text)
+  token_holds value_of_symbol all sorts.Name text = meaning_holds value_of_symbol all missing tt (symbol_in sorts.Name text)
+  token_holds value_of_symbol all sorts.LocalSymbol text = meaning_holds value_of_symbol all (absolute 0 _) tt (symbol_in sorts.LocalSymbol text)
+  token_holds value_of_symbol all sorts.Number text = tt
+  token_holds value_of_symbol all sorts.DecimalNumber text = tt
+  token_holds value_of_symbol all sorts.Character text = character_holds text
+  token_holds value_of_symbol all sorts.TwoCharacters text = characters_hold text
+  token_holds value_of_symbol all sorts.Packed text = packed_holds text
+  token_holds value_of_symbol all sort text = tt
 
-  items_hold : (stands_for : Symbol → Quantity) → ((symbol : Symbol) → ValueHolds (stands_for symbol)) → (tokens : Expression)
-      → AllByRecursion ItemHolds (map (plain_item stands_for) tokens)
-  items_hold stands_for all [] = tt
-  items_hold stands_for all (token ∷ tokens) =
-      (token_holds stands_for all token.sort token.text, items_hold stands_for all tokens)
+  items_hold : (value_of_symbol : Symbol → Quantity) → ((symbol : Symbol) → ValueHolds (value_of_symbol symbol)) → (tokens : Expression)
+      → AllByRecursion ItemHolds (map (plain_item value_of_symbol) tokens)
+  items_hold value_of_symbol all [] = tt
+  items_hold value_of_symbol all (token ∷ tokens) =
+      (token_holds value_of_symbol all token.sort token.text, items_hold value_of_symbol all tokens)
 
-  pub value_holds : (known : KnownSymbols) → ((symbol : Symbol) → ValueHolds (known.stands_for symbol)) → (tokens : Expression)
+  pub value_holds : (known : KnownSymbols) → ((symbol : Symbol) → ValueHolds (known.value_of_symbol symbol)) → (tokens : Expression)
       → ValueHolds (value known tokens)
   unfolding value_of
   value_holds known all tokens =
-      let items = map (plain_item known.stands_for) tokens in
-      within_holds (length items) known.radix items (items_hold known.stands_for all tokens)
+      let items = map (plain_item known.value_of_symbol) tokens in
+      within_holds (length items) known.radix items (items_hold known.value_of_symbol all tokens)
 
   -- ---- symbols
 
@@ -274,7 +274,7 @@ module _ (P : Name → Type 0) where
         (defined_holds key map.doubly_defined other (last_definition key map.definitions) k (m key)) (h.definitions key)
 
     pub symbols_hold : (map : Map) (context : Context) (table : Table) (here : ℕ) → AllDefined map.definitions
-        → TableHolds table → (symbol : Symbol) → ValueHolds (stands_for map context table here symbol)
+        → TableHolds table → (symbol : Symbol) → ValueHolds (value_of_symbol map context table here symbol)
     symbols_hold map context table here m h (Ordinary name) =
         meanings_hold map (undefined context (Ordinary name)) table (Named name) m h (undefined_holds context (Ordinary name))
     symbols_hold map context table here m h (Local number) =

@@ -47,7 +47,7 @@ pub record HasImage (image : Image) (words : ℕ) (machine : Machine) (start : �
 -- ---- the link
 
 -- a link of the sources' objects refuses none of their parts, and no relocatable section ends past octal 160000
-pub record LinkTakes (bottom : ℕ) (sources : List Source) : Type 0 where
+pub record LinkAccepts (bottom : ℕ) (sources : List Source) : Type 0 where
   pub sound : first_fault [] (link_parts sources) ≡ None
   pub low : is_too_large bottom (link_parts sources) ≡ false
 
@@ -62,7 +62,7 @@ tape_of bottom sources =
 pub record Linked (texts : List (List Bytes)) (bottom : ℕ) (Holds : List Source → Type 0) : Type 0 where
   pub lines : List (List NumberedLine)
   pub live : AllLive texts lines
-  pub links : LinkTakes bottom (sources_of lines)
+  pub links : LinkAccepts bottom (sources_of lines)
   pub holds : Holds (sources_of lines)
 
 -- a load stops with this fault: `OutsideMemory`, and a byte of the image is outside memory; or `TooMuch`, and the tape has more than

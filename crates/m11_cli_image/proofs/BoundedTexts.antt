@@ -13,7 +13,7 @@ use Rattle.m11_link_layout.proofs.Walking.{head_none, rest_none}
 use Rattle.m11_link_modules.specs.Grammar.{directory_parts}
 use Rattle.m11_link_modules.specs.Parts.{Part, Directory, Entry, EndOfDirectory, Text, Relocations, Relocated, EndOfModule, EndOfFile, parts_of}
 use Rattle.m11_link_modules.specs.Positions.{current_section, ends_module, known_of, section_after, section_by, section_in, sections_in, selected_by, size_known, stage_after, this_module}
-use Rattle.m11_link_modules.specs.Rules.{fault_known, fault_of, first_fault, may_stand, text_fault}
+use Rattle.m11_link_modules.specs.Rules.{fault_known, fault_of, first_fault, may_occur, text_fault}
 use Rattle.m11_link_modules.specs.declared.fault.ModuleFault.{ModuleFault}
 use Rattle.m11_link_modules.specs.declared.fault.ModuleFault.TheVariants.{BadOrder, TextOutside}
 use Rattle.m11_link_modules.proofs.KnownAfter.{this_module_ended, this_module_goes_on}
@@ -76,7 +76,7 @@ text_within : (before : List Part) (location : ℕ) (bytes : List ℕ) → fault
     → EndsWithin (sections_in (this_module before)) (current_section (this_module before)) location bytes
 unfolding fault_known known_of
 text_within before location bytes e =
-    within location (length bytes) _ (unless_bad (may_stand (Text location bytes) (stage_after before)) _ e)
+    within location (length bytes) _ (unless_bad (may_occur (Text location bytes) (stage_after before)) _ e)
 
 goes_on : (before : List Part) (part : Part) (parts : List Part) → ends_module part ≡ false
     → After (before ++ part ∷ []) parts

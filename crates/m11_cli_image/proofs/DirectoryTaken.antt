@@ -14,7 +14,7 @@ use Rattle.m11_link_modules.specs.declared.stage.Stage.TheVariants.{Between, InD
 use Rattle.m11_link_modules.specs.Grammar.{directory_parts}
 use Rattle.m11_link_modules.specs.Parts.{Part, Directory, Entry, EndOfDirectory}
 use Rattle.m11_link_modules.specs.Positions.{RulesState, size_known}
-use Rattle.m11_link_modules.specs.Rules.{begin_fault, defines_relocatable, entry_fault, fault_known, first_there, may_stand, global_fault, is_past, most_globals, most_modules, most_sections}
+use Rattle.m11_link_modules.specs.Rules.{begin_fault, defines_relocatable, entry_fault, fault_known, first_there, may_occur, global_fault, is_past, most_globals, most_modules, most_sections}
 use Rattle.m11_link_modules.specs.Steps.{first_known_fault, known_after, with_entry}
 use Rattle.m11_obj.specs.declared.gsd.GsdEntry.{GsdEntry}
 use Rattle.m11_obj.specs.declared.gsd.GsdKind.{GsdKind}
@@ -200,7 +200,7 @@ module _ (many outside : Type 0) where
     GoesBefore entered parts = GoesFrom Between entered parts × GoesFrom InDirectory entered parts
 
     opens : (stage : Stage) (entered : Entered) (parts : List Part) → (nat_le most_modules modules ≡ true → many)
-        → may_stand Directory stage ≡ true → Goes entered parts → GoesFrom stage entered (Directory ∷ parts)
+        → may_occur Directory stage ≡ true → Goes entered parts → GoesFrom stage entered (Directory ∷ parts)
     unfolding fault_known known_after
     opens Between entered parts room may h sections globals = fine_or _ _ (begin_fine Between modules room) (h sections globals)
     opens InDirectory entered parts room may h sections globals = h sections globals

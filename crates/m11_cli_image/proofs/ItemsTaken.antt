@@ -24,7 +24,7 @@ use Rattle.m11_link_layout.specs.Fault.{of_module}
 use Rattle.m11_link_layout.specs.Sections.{is_too_large}
 use Rattle.m11_link_layout.specs.declared.fault.LinkFault.{LinkFault}
 use Rattle.m11_link_layout.specs.declared.fault.LinkFault.TheVariants as fault
-use Rattle.m11_link.specs.Objects.{◌>>=◌, AreItems, BlockOf, Item, ObjectEnds, ObjectItems, Refused, outcome, parts_or_fault, taken, taken_item, taken_parts, unless_fault, unless_too_large}
+use Rattle.m11_link.specs.Objects.{◌>>=◌, AreItems, BlockOf, Item, ObjectEnds, ObjectItems, Refused, outcome, parts_or_fault, taken, accepted_item, accepted_parts, unless_fault, unless_too_large}
 use Rattle.m11_link.specs.Objects as objects
 use Rattle.m11_cli_image.proofs.GlobalsNamed.{globals_same}
 use Rattle.m11_cli_image.proofs.LinkedLocations.{large_same, names_same}
@@ -99,7 +99,7 @@ module _ (bottom : ℕ) (sources : List Source) where
   -- if a link stops at parts, or accepts them and stops at the items after them, its fault is one by which it may stop
   parts_stop : (before parts more : List Part) (items : List Item) (stopped : LinkFault) → Legit (first_fault before (parts ++ more))
       → (Legit (first_fault (before ++ parts) more) → taken (before ++ parts) items ≡ Err stopped → MayStop stopped)
-      → (taken_parts before parts >>= λ these. taken these items) ≡ Err stopped → MayStop stopped
+      → (accepted_parts before parts >>= λ these. taken these items) ≡ Err stopped → MayStop stopped
   parts_stop before parts more items stopped legit later e =
       by (first_fault before parts) (subst Legit (then_fault before parts more) legit) e
     where
@@ -147,7 +147,7 @@ module _ (bottom : ℕ) (sources : List Source) where
       let same = value_is found (record_data content) rest h.0 both in
       let P : List ℕ → Type 0 = λ these. AreRead contents these in
       let Q : Result Content RecordFault → Type 0 = λ read.
-      (parts_or_fault read >>= taken_parts before >>= λ these. taken these (others ++ items)) ≡ Err stopped in
+      (parts_or_fault read >>= accepted_parts before >>= λ these. taken these (others ++ items)) ≡ Err stopped in
       parts_stop before (parts_of content) more (others ++ items) stopped legit
       (λ fine e. later left rest others (subst P (sym (rest_is found (record_data content) rest h.0 both)) h.2) more_items
       (λ lt. long (omega (arith, f, lt))) fine e)

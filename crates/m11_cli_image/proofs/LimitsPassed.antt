@@ -13,7 +13,7 @@ use Rattle.m11_base.specs.Rad50.{Name, is_same_name}
 use Rattle.m11_link_modules.specs.Names.{is_among}
 use Rattle.m11_link_modules.specs.Parts.{Part, Directory, Entry, EndOfDirectory, Text, Relocations, Relocated, EndOfModule, EndOfFile}
 use Rattle.m11_link_modules.specs.Positions.{RulesState, distinct, distinct_after, global_by, global_in, global_names, global_of, known_of, section_by, section_in, section_names, sections_in}
-use Rattle.m11_link_modules.specs.Rules.{begin_fault, entry_fault, fault_in_order, fault_known, fault_of, first_fault, first_there, global_fault, is_past, location_fault, may_stand, most_globals, most_sections, relocation_by, target_fault}
+use Rattle.m11_link_modules.specs.Rules.{begin_fault, entry_fault, fault_in_order, fault_known, fault_of, first_fault, first_there, global_fault, is_past, location_fault, may_occur, most_globals, most_sections, relocation_by, target_fault}
 use Rattle.m11_link_modules.specs.declared.fault.ModuleFault.{ModuleFault}
 use Rattle.m11_link_modules.specs.declared.fault.ModuleFault.TheVariants.{BadOrder, BadDisplacement, UnknownSection, TextOutside, TooManyGlobals, TooManySections, TooManyModules}
 use Rattle.m11_link_modules.specs.declared.stage.Stage.{Stage}
@@ -175,7 +175,7 @@ part_told : (before : List Part) (part : Part) → Says (section_names before) (
     (global_in part) (fault_of before part)
 unfolding fault_known known_of
 part_told before part =
-    may_told (known_of before) part (may_stand part (known_of before).stage) (fault_in_order (known_of before) part) (order_told (known_of before) part)
+    may_told (known_of before) part (may_occur part (known_of before).stage) (fault_in_order (known_of before) part) (order_told (known_of before) part)
 
 -- ---- the first fault
 

@@ -88,10 +88,10 @@ module _ (bottom : ℕ) (sources : List Source) (fit : AllByRecursion SourceFits
   unfolding image_of
   start_is = start_found bottom sources (λ index. lies_at_zero bottom sources index fit)
 
-pub tape_given : (bottom : ℕ) (sources : List Source) (items : List Item) (parts : List Part) → AllByRecursion SourceFits sources
+pub tape_written : (bottom : ℕ) (sources : List Source) (items : List Item) (parts : List Part) → AllByRecursion SourceFits sources
     → AreItems (map object_of sources) items → outcome bottom items ≡ Ok parts
     → IsTapeOf (image_of bottom sources) (gained link Product (link_writes (findings_of bottom parts) parts))
-tape_given bottom sources items parts fit are e =
+tape_written bottom sources items parts fit are e =
     let linked = are_linked bottom sources items parts fit are e in
     let Sound : List Part → Type 0 = λ these. first_fault [] these ≡ None in
     let Low : List Part → Type 0 = λ these. is_too_large bottom these ≡ false in
@@ -113,5 +113,5 @@ pub load_given : (bottom : ℕ) (sources : List Source) (items : List Item) (par
     → LoadYields (image_of bottom sources) text.bytes faults faults' before after result
 load_given bottom sources items parts text left faults faults' before after result fit are e same load =
     let image = image_of bottom sources in
-    yields image text (subst (IsTapeOf image) (sym same) (tape_given bottom sources items parts fit are e)) faults left faults'
+    yields image text (subst (IsTapeOf image) (sym same) (tape_written bottom sources items parts fit are e)) faults left faults'
     before after result load

@@ -7,7 +7,7 @@ use Rattle.m11_base.specs.Rad50.{Name, is_same_name}
 use Rattle.m11_link_layout.specs.declared.definition.GlobalLocation.{GlobalLocation}
 use Rattle.m11_asm_rules.specs.Definitions.{is_defined, last_definition}
 use Rattle.m11_asm_rules.specs.Lines.{stands}
-use Rattle.m11_asm_rules.specs.Meanings.{stands_for}
+use Rattle.m11_asm_rules.specs.Meanings.{value_of_symbol}
 use Rattle.m11_asm_rules.specs.Placements.{program_map, table_after}
 use Rattle.m11_asm_rules.specs.Tables.{Table}
 use Rattle.m11_asm_rules.specs.declared.definitions.Definition.{Definition}
@@ -47,7 +47,7 @@ pub record HasLabel (lines : List UnfoldedLine) (line : LineOf lines) (name : Na
 -- the meaning of a name in a line of the source, where `.` is the location `here`
 abbrev pub meaning_at : (lines : List UnfoldedLine) → LineOf lines → Context → ℕ → Name → Quantity
 meaning_at lines line context here name =
-    stands_for (program_map lines) context (at_line lines line) here (Ordinary name)
+    value_of_symbol (program_map lines) context (at_line lines line) here (Ordinary name)
 
 -- ---- names for other sources
 

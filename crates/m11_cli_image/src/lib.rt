@@ -34,7 +34,7 @@ mod refusals;
 
 pub use refusals::{
     links_are_refused_for_sizes_alone, links_put_nothing_at_the_last_location,
-    links_within_the_sizes_are_taken,
+    links_within_the_sizes_are_accepted,
 };
 
 // Links without messages.

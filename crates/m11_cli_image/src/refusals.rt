@@ -21,7 +21,7 @@ pub fn links_are_refused_for_sizes_alone()
 
 /// A link of the objects of sources refuses nothing if the sources fit, are consistent and exceed no limit, and none has a byte at the last
 /// location of a section.
-pub fn links_within_the_sizes_are_taken()
+pub fn links_within_the_sizes_are_accepted()
     ensures { (bottom : ℕ) (sources : List Source) (items : List Item) → AllByRecursion SourceFits sources
         → AllByRecursion IsConsistent sources → IsWithinSizes bottom sources → AreItems (map object_of sources) items
         → (parts : List Part) × (outcome bottom items ≡ Ok parts) }

@@ -22,7 +22,7 @@ ghost use Rattle.m11_cli_image.specs.Sources.{Source};
 /// If a link of the objects of sources that fit refuses nothing, the tape that the link writes is a tape of the image of the sources,
 /// whatever messages the link writes. At each address the tape has exactly the byte of the image, or none if the image has none there. The
 /// start of the tape is that of the image, or 1 if the image has none.
-#[tactic(auto, using(crate::proofs::TapesHold::tape_given))]
+#[tactic(auto, using(crate::proofs::TapesHold::tape_written))]
 pub fn links_give_the_image()
     ensures { (bottom : ℕ) (sources : List Source) (items : List Item) (parts : List Part) → AllByRecursion SourceFits sources
         → AreItems (map object_of sources) items → outcome bottom items ≡ Ok parts

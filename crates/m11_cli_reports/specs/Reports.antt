@@ -2,7 +2,7 @@
 use Rattle.std.specs.Prelude.{◌≡◌, ◌⊎◌, ℕ}
 use Rattle.std.specs.Io.KnownBytes.{Appends}
 use Rattle.m11_base.specs.Devices.{Bytes, Rises}
-use Rattle.m11_base.specs.Sink.{AppendsBeginning}
+use Rattle.m11_base.specs.Sink.{AppendsPrefix}
 use Rattle.m11_base_writes.specs.States.{OutputState}
 use Rattle.m11_cli_tasks.specs.Arguments.{refusal_line}
 use Rattle.m11_cli_tasks.specs.declared.arguments.WordsFault.{WordsFault}
@@ -14,7 +14,7 @@ use Rattle.m11_cli_reports.specs.Usage.{usage_line}
 -- a text was reported whole, or the device failed after a prefix of it
 abbrev pub Reports : Bytes → OutputState → OutputState → Type 0
 Reports text old new = (Appends old.text new.text text × (new.faults ≡ old.faults))
-    ⊎ (AppendsBeginning old.text new.text text × Rises old.faults new.faults)
+    ⊎ (AppendsPrefix old.text new.text text × Rises old.faults new.faults)
 
 -- a text was reported whole, or the device failed after a prefix of it, or nothing was reported because memory was refused for the text
 abbrev pub MayReport : Bytes → OutputState → OutputState → Type 0

@@ -4,7 +4,7 @@
 ghost use Rattle.std.specs.Prelude.{◌≡◌, OnErr, OnOk};
 ghost use Rattle.std.specs.Io.KnownBytes.{Appends};
 ghost use Rattle.m11_base.specs.Devices.{Rises};
-ghost use Rattle.m11_base.specs.Sink.{AppendsBeginning};
+ghost use Rattle.m11_base.specs.Sink.{AppendsPrefix};
 ghost use Rattle.m11_base_writes.specs.States.{output_of};
 ghost use Rattle.m11_cli_reports.specs.Lines.{open_line};
 ghost use Rattle.m11_cli_reports.specs.Reports.{Explains, Reports, ReportsOfWords, ReportsSome, words_status};
@@ -63,8 +63,8 @@ pub fn report_not_opened<S: Sink>(path: &str, sink: &mut S)
 fn put_not_opened<S: Sink>(path: &str, sink: &mut S) -> Result<(), PutFault>
     ensures whole { OnOk result (Appends (S.text sink.old) (S.text sink.new) (open_line path.now)) }
     ensures sound { OnOk result (S.faults sink.new ≡ S.faults sink.old) }
-    ensures beginning { OnErr result
-        (AppendsBeginning (S.text sink.old) (S.text sink.new) (open_line path.now)) }
+    ensures prefix { OnErr result
+        (AppendsPrefix (S.text sink.old) (S.text sink.new) (open_line path.now)) }
     ensures fault { OnErr result (Rises (S.faults sink.old) (S.faults sink.new)) }
 {
     put_all(sink, b"?M11 OPEN ")?;

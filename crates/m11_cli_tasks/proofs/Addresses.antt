@@ -7,11 +7,11 @@ use Rattle.clap.specs.declared.parser.matches.Found.{Found}
 use Rattle.m11_base.specs.Octal.{octal_of}
 use Rattle.m11_base.specs.declared.fault.OctalFault.{OctalFault}
 use Rattle.m11_cli_tasks.specs.Commands.{application}
-use Rattle.m11_cli_tasks.specs.Tasks.{EntriesGive, HasAddressFault, IsTask, Plans, address_of_octal, bottom_of, address_of, start_at, start_of}
+use Rattle.m11_cli_tasks.specs.Tasks.{EntriesHaveResult, HasAddressFault, IsTask, Plans, address_of_octal, bottom_of, address_of, start_at, start_of}
 use Rattle.m11_cli_tasks.specs.declared.tasks.Task.{Task}
 use Rattle.m11_cli_tasks.specs.declared.usage.UsageFault.{UsageFault}
 use Rattle.m11_cli_tasks.specs.declared.usage.UsageFault.TheVariants.{Help, Words, BadOctal, OddAddress, BadAddress, BadCount, NoMemory}
-use Rattle.m11_cli_tasks.proofs.Entries.{first_given}
+use Rattle.m11_cli_tasks.proofs.Entries.{first_entry_value}
 
 pub err_is : {X E : Type 0} (r : Result X E) (e : E) → IsErrAnd r (λ y. y ≡ e) → r ≡ Err e
 err_is (Ok x) e h = absurd h
@@ -22,14 +22,14 @@ pub start_refused : (f : Found) (id : Text) (o : Option (Bor Text)) (text : Bor 
     → option_map (λ s. s.now) o ≡ first_value f id → o ≡ Some text → Err fault ≡ address_of text.now
     → Err fault ≡ start_of (first_of id (rows_of f))
 start_refused f id o text fault got some bad =
-    ap start_at bad ∙ ap start_of (sym (first_given f id o got ∙ ap (option_map (λ s. s.now)) some))
+    ap start_at bad ∙ ap start_of (sym (first_entry_value f id o got ∙ ap (option_map (λ s. s.now)) some))
 
 -- the bottom is the address that its text spells, or the fault of that text
 pub bottom_spelled : (f : Found) (id : Text) (o : Option (Bor Text)) (text : Bor Text) (r : Result ℕ UsageFault)
     → option_map (λ s. s.now) o ≡ first_value f id → o ≡ Some text → r ≡ address_of text.now
     → r ≡ bottom_of (first_of id (rows_of f))
 bottom_spelled f id o text r got some is =
-    is ∙ ap bottom_of (sym (first_given f id o got ∙ ap (option_map (λ s. s.now)) some))
+    is ∙ ap bottom_of (sym (first_entry_value f id o got ∙ ap (option_map (λ s. s.now)) some))
 
 abbrev IsAddressFault : UsageFault → Type 0
 IsAddressFault (Help error) = ⊥
@@ -69,7 +69,7 @@ of_start (Some text) fault e = of_octal (octal_of text) fault (of_start_at (addr
 
 -- the entries yield the fault of an address that was entered
 refused : (entered : Option (Text × List Row)) (fault : UsageFault) → HasAddressFault entered fault
-    → IsAddressFault fault → EntriesGive entered (Err fault)
+    → IsAddressFault fault → EntriesHaveResult entered (Err fault)
 refused entered (Help error) has is = absurd is
 refused entered (Words error) has is = absurd is
 refused entered BadOctal has is = has
@@ -80,22 +80,22 @@ refused entered NoMemory has is = tt
 
 pub start_gives : (entered : Option (Text × List Row)) (rows : List Row) (fault : UsageFault)
     → entered ≡ Some (codes "sim", rows) → start_of (first_of (codes "start") rows) ≡ Err fault
-    → EntriesGive entered (Err fault)
+    → EntriesHaveResult entered (Err fault)
 start_gives entered rows fault is e =
     refused entered fault (subst (λ o. HasAddressFault o fault) (sym is) (inr (refl, e)))
     (of_start (first_of (codes "start") rows) fault e)
 
 pub bottom_gives : (entered : Option (Text × List Row)) (rows : List Row) (fault : UsageFault)
     → entered ≡ Some (codes "link", rows)
-    → (fault ≡ NoMemory) ⊎ (bottom_of (first_of (codes "bottom") rows) ≡ Err fault) → EntriesGive entered (Err fault)
-bottom_gives entered rows fault is (inl memory) = subst (λ f. EntriesGive entered (Err f)) (sym memory) tt
+    → (fault ≡ NoMemory) ⊎ (bottom_of (first_of (codes "bottom") rows) ≡ Err fault) → EntriesHaveResult entered (Err fault)
+bottom_gives entered rows fault is (inl memory) = subst (λ f. EntriesHaveResult entered (Err f)) (sym memory) tt
 bottom_gives entered rows fault is (inr e) =
     refused entered fault (subst (λ o. HasAddressFault o fault) (sym is) (inl (refl, e)))
     (of_bottom (first_of (codes "bottom") rows) fault e)
 
 -- if the parser accepts a command line, its result is that of its entries
 pub planned : (words : List Text) (entered : Option (Text × List Row)) (r : Result Task UsageFault)
-    → fault_of application words ≡ [] → entered ≡ subcommand_of application words → EntriesGive entered r → Plans words r
+    → fault_of application words ≡ [] → entered ≡ subcommand_of application words → EntriesHaveResult entered r → Plans words r
 planned words entered (Ok task) free is given = (free, subst (λ o. IsTask o task) is given)
 planned words entered (Err (Help error)) free is given = absurd given
 planned words entered (Err (Words error)) free is given = absurd given

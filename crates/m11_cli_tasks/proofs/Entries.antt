@@ -12,9 +12,9 @@ use Rattle.clap.specs.declared.parser.matches.SubCommand.{SubCommand}
 use Rattle.clap.proofs.WalkLemmas.{first_value-rows, raw_values-rows}
 
 -- the first value that a getter returns is the first one of the entries
-pub first_given : (f : Found) (id : Text) (o : Option (Bor Text)) → option_map (λ s. s.now) o ≡ first_value f id
+pub first_entry_value : (f : Found) (id : Text) (o : Option (Bor Text)) → option_map (λ s. s.now) o ≡ first_value f id
     → first_of id (rows_of f) ≡ option_map (λ s. s.now) o
-first_given f id o e = sym (e ∙ first_value-rows f id)
+first_entry_value f id o e = sym (e ∙ first_value-rows f id)
 
 -- the first value that a getter returns, or else the empty text, is the first one of the entries, or else the empty text
 pub first_is : (f : Found) (id : Text) (o : Option (Bor Text)) (d : Bor Text)

@@ -7,7 +7,7 @@ use Rattle.clap.specs.declared.error.Error.{Error}
 use Rattle.clap.specs.declared.error.kind.ErrorKind.{ErrorKind}
 use Rattle.clap.specs.declared.error.kind.ErrorKind.TheVariants as kind
 use Rattle.m11_cli_tasks.specs.Plans.{ParserRefuses, Plans}
-use Rattle.m11_cli_tasks.specs.Usage.{UsageKeeps}
+use Rattle.m11_cli_tasks.specs.Usage.{UsageFaultOf}
 use Rattle.m11_cli_tasks.specs.declared.usage.UsageFault.{UsageFault}
 use Rattle.m11_cli_tasks.specs.declared.usage.UsageFault.TheVariants.{Help, Words, BadOctal, OddAddress, BadAddress, BadCount, NoMemory}
 
@@ -24,7 +24,7 @@ words_are kinds e error (inl memory) same other some = absurd (some memory)
 words_are kinds e error (inr among) same other some =
     (λ h. other (sym (ap kind_of same) ∙ h), subst (λ (k : ErrorKind). IsAmong k kinds) (sym (ap kind_of same)) among)
 
-refusal : (kinds : Kinds) (e : Error) (fault : UsageFault) → HasKind kinds e → UsageKeeps e fault → ParserRefuses kinds fault
+refusal : (kinds : Kinds) (e : Error) (fault : UsageFault) → HasKind kinds e → UsageFaultOf e fault → ParserRefuses kinds fault
 refusal kinds e (Help error) has h = help_is kinds e error has h.0 h.1
 refusal kinds e (Words error) has h = words_are kinds e error has h.0 h.1 h.2
 refusal kinds e BadOctal has h = h
@@ -34,7 +34,7 @@ refusal kinds e BadCount has h = h
 refusal kinds e NoMemory has h = tt
 
 module _ {A : Type 0} (app : App) (Gives : List Row → Result A UsageFault → Type 0) (words : List Text) where
-  pub refused : (e : Error) (r : Result A UsageFault) → HasKind (fault_of app words) e → IsErrAnd r (UsageKeeps e)
+  pub refused : (e : Error) (r : Result A UsageFault) → HasKind (fault_of app words) e → IsErrAnd r (UsageFaultOf e)
       → Plans app Gives words r
   refused e (Ok task) has h = absurd h
   refused e (Err fault) has h = inl (refusal (fault_of app words) e fault has h)

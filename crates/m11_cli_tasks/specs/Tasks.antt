@@ -122,15 +122,15 @@ IsCommandName None = ⊥
 IsCommandName (Some name) = IsOneOf name (codes "asm" ∷ codes "link" ∷ codes "sim" ∷ [])
 
 -- the options and arguments of a command have this result: its task, or the fault of its address; memory may be refused for any command
-abbrev pub EntriesGive : Option (Text × List Row) → Result Task UsageFault → Type 0
-EntriesGive entered (Ok task) = IsTask entered task
-EntriesGive entered (Err (Help error)) = ⊥
-EntriesGive entered (Err (Words error)) = ⊥
-EntriesGive entered (Err BadOctal) = HasAddressFault entered BadOctal
-EntriesGive entered (Err OddAddress) = HasAddressFault entered OddAddress
-EntriesGive entered (Err BadAddress) = HasAddressFault entered BadAddress
-EntriesGive entered (Err BadCount) = ⊥
-EntriesGive entered (Err NoMemory) = ⊤
+abbrev pub EntriesHaveResult : Option (Text × List Row) → Result Task UsageFault → Type 0
+EntriesHaveResult entered (Ok task) = IsTask entered task
+EntriesHaveResult entered (Err (Help error)) = ⊥
+EntriesHaveResult entered (Err (Words error)) = ⊥
+EntriesHaveResult entered (Err BadOctal) = HasAddressFault entered BadOctal
+EntriesHaveResult entered (Err OddAddress) = HasAddressFault entered OddAddress
+EntriesHaveResult entered (Err BadAddress) = HasAddressFault entered BadAddress
+EntriesHaveResult entered (Err BadCount) = ⊥
+EntriesHaveResult entered (Err NoMemory) = ⊤
 
 -- the parser accepts the command line, and an address in it has this fault
 abbrev pub IsAddressRefused : List Text → UsageFault → Type 0

@@ -29,12 +29,12 @@ usage_name NoMemory = codes "NoMemory"
 
 -- the fault for an error of the parser: `Help` if help was asked for, `NoMemory` if memory was refused, and `Words` for any other; `Help`
 -- and `Words` hold the error; the faults of addresses and counts aren't the parser's
-abbrev pub UsageKeeps : Error → UsageFault → Type 0
-UsageKeeps e (Help error) = (error ≡ e) × (kind_of e ≡ kind.DisplayHelp)
-UsageKeeps e (Words error) =
+abbrev pub UsageFaultOf : Error → UsageFault → Type 0
+UsageFaultOf e (Help error) = (error ≡ e) × (kind_of e ≡ kind.DisplayHelp)
+UsageFaultOf e (Words error) =
     (error ≡ e) × (kind_of e ≢ kind.DisplayHelp) × (kind_of e ≢ kind.OutOfMemory)
-UsageKeeps e BadOctal = ⊥
-UsageKeeps e OddAddress = ⊥
-UsageKeeps e BadAddress = ⊥
-UsageKeeps e BadCount = ⊥
-UsageKeeps e NoMemory = kind_of e ≡ kind.OutOfMemory
+UsageFaultOf e BadOctal = ⊥
+UsageFaultOf e OddAddress = ⊥
+UsageFaultOf e BadAddress = ⊥
+UsageFaultOf e BadCount = ⊥
+UsageFaultOf e NoMemory = kind_of e ≡ kind.OutOfMemory

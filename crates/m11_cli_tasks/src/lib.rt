@@ -21,8 +21,8 @@ pub use usage::UsageFault;
 mod tasks;
 
 pub use tasks::{
-    AsmTask, LinkTask, SimTask, Task, address, all_texts, bottom_given, count, number_given, plan,
-    sim_task, text_given,
+    AsmTask, LinkTask, SimTask, Task, address, all_texts, bottom_option, count, number_option,
+    plan, sim_task, text_argument,
 };
 
 // The opening of a task's files.

@@ -4,7 +4,7 @@ ghost use Rattle.std.specs.Prelude.{◌≡◌, ◌≤◌, ◌⊎◌, [], Err, If
 ghost use Rattle.clap.specs.Words.{all_of, first_of, found_of, one_of, rows_of, subcommand_name_of, subcommand_rows_of};
 ghost use Rattle.m11_cli_tasks.specs.declared.tasks.Task.TheVariants.{Link, Sim};
 ghost use Rattle.m11_cli_tasks.specs.declared.usage.UsageFault.TheVariants.{NoMemory};
-ghost use Rattle.m11_cli_tasks.specs.Tasks.{EntriesGive, IsAsmTask, IsCommandName, IsDoable, IsLinkTask, IsSimTask, Plans, address_of, bottom_of, count_of, count_within, number_or, start_of};
+ghost use Rattle.m11_cli_tasks.specs.Tasks.{EntriesHaveResult, IsAsmTask, IsCommandName, IsDoable, IsLinkTask, IsSimTask, Plans, address_of, bottom_of, count_of, count_within, number_or, start_of};
 
 use crate::commands::application_command;
 use crate::usage::UsageFault;
@@ -97,7 +97,7 @@ pub fn plan<'a, S: AsStr>(alloc: Global, words: &'a [S]) -> Result<Task<'a>, Usa
 // The task of the command that was entered. Errors: the fault of an address, or `NoMemory`.
 fn entered_task<'a>(alloc: Global, matches: &ArgMatches<'a>) -> Result<Task<'a>, UsageFault>
     requires { IsCommandName (subcommand_name_of matches.now) }
-    ensures given { EntriesGive (subcommand_rows_of matches.now) result }
+    ensures given { EntriesHaveResult (subcommand_rows_of matches.now) result }
     ensures doable { IfOk result IsDoable }
 {
     if let Some(entries) = matches.subcommand_matches("asm") {
@@ -119,7 +119,7 @@ fn asm_task<'a>(alloc: Global, entries: &ArgMatches<'a>) -> Result<AsmTask<'a>, 
 {
     Ok(AsmTask {
         object: first_text(entries, "output"),
-        listing: text_given(entries, "listing"),
+        listing: text_argument(entries, "listing"),
         sources: all_texts(alloc, entries, "sources")?,
     })
 }
@@ -133,15 +133,15 @@ fn link_task<'a>(alloc: Global, entries: &ArgMatches<'a>) -> Result<LinkTask<'a>
 {
     Ok(LinkTask {
         tape: first_text(entries, "output"),
-        map: text_given(entries, "map"),
-        bottom: bottom_given(entries)?,
+        map: text_argument(entries, "map"),
+        bottom: bottom_option(entries)?,
         objects: all_texts(alloc, entries, "objects")?,
     })
 }
 
 /// The first address of relocatable sections that `-b` specifies, or octal 1000 without `-b`. Errors: those of `address`.
-#[tactic(auto, using(crate::proofs::Entries::first_given))]
-pub fn bottom_given(entries: &ArgMatches<'_>) -> Result<u16, UsageFault>
+#[tactic(auto, using(crate::proofs::Entries::first_entry_value))]
+pub fn bottom_option(entries: &ArgMatches<'_>) -> Result<u16, UsageFault>
     ensures { result ≡ bottom_of (first_of (codes "bottom") (rows_of (found_of entries.now))) }
 {
     match entries.get_str("bottom") {
@@ -159,15 +159,15 @@ pub fn sim_task<'a>(entries: &ArgMatches<'a>) -> Result<SimTask<'a>, UsageFault>
 {
     Ok(SimTask {
         tape: first_text(entries, "tape"),
-        start: start_given(entries)?,
-        words: number_given(entries, "words", LEAST_WORDS, MOST_WORDS, MOST_WORDS) as u16,
-        limit: number_given(entries, "steps", 0, MOST_STEPS, DEFAULT_STEPS),
+        start: start_option(entries)?,
+        words: number_option(entries, "words", LEAST_WORDS, MOST_WORDS, MOST_WORDS) as u16,
+        limit: number_option(entries, "steps", 0, MOST_STEPS, DEFAULT_STEPS),
     })
 }
 
 // The start address, if one is asked for. Errors: those of `address`.
-#[tactic(auto, using(crate::proofs::Entries::first_given))]
-fn start_given(entries: &ArgMatches<'_>) -> Result<Option<u16>, UsageFault>
+#[tactic(auto, using(crate::proofs::Entries::first_entry_value))]
+fn start_option(entries: &ArgMatches<'_>) -> Result<Option<u16>, UsageFault>
     ensures { result ≡ start_of (first_of (codes "start") (rows_of (found_of entries.now))) }
 {
     match entries.get_str("start") {
@@ -213,7 +213,7 @@ fn count_within(number: u32) -> Result<u32, UsageFault>
 
 /// The number of an option if it is from `least` to `most`, and `other` if it is out of range or the option is missing. The parser itself
 /// refuses a number out of range.
-pub fn number_given(entries: &ArgMatches<'_>, id: &str, least: u32, most: u32, other: u32) -> u32
+pub fn number_option(entries: &ArgMatches<'_>, id: &str, least: u32, most: u32, other: u32) -> u32
     ensures number { result ≡ number_or other least most
         (one_of id.now (rows_of (found_of entries.now))) }
     ensures within { least ≤ other → other ≤ most → (least ≤ result) × (result ≤ most) }
@@ -225,8 +225,8 @@ pub fn number_given(entries: &ArgMatches<'_>, id: &str, least: u32, most: u32, o
 }
 
 /// The first value of an argument, if there is one.
-#[tactic(auto, using(crate::proofs::Entries::first_given))]
-pub fn text_given<'a>(entries: &ArgMatches<'a>, id: &str) -> Option<&'a str>
+#[tactic(auto, using(crate::proofs::Entries::first_entry_value))]
+pub fn text_argument<'a>(entries: &ArgMatches<'a>, id: &str) -> Option<&'a str>
     ensures { option_map (λ text. text.now) result ≡ first_of id.now (rows_of (found_of entries.now)) }
 {
     entries.get_str(id)

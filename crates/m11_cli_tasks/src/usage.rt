@@ -1,7 +1,7 @@
 //! The faults of a command line.
 
 ghost use Rattle.std.specs.Prelude.{◌≡◌};
-ghost use Rattle.m11_cli_tasks.specs.Usage.{UsageKeeps, usage_name, usage_number};
+ghost use Rattle.m11_cli_tasks.specs.Usage.{UsageFaultOf, usage_name, usage_number};
 ghost use Rattle.m11_cli_tasks.specs.declared.usage.UsageFault.TheVariants.{BadOctal, NoMemory};
 
 use clap::error::ErrorKind;
@@ -68,7 +68,7 @@ impl UsageFault {
 }
 
 impl From<clap::Error> for UsageFault {
-    ghost from_gives = { UsageKeeps };
+    ghost from_gives = { UsageFaultOf };
 
     fn from(error: clap::Error) -> UsageFault {
         match error.kind() {

@@ -5,7 +5,7 @@ use Rattle.std.specs.Fmt.{decimal}
 use Rattle.std.specs.Io.KnownBytes.{Appends}
 use Rattle.m11_base.specs.Devices.{Bytes, Rises}
 use Rattle.m11_base.specs.Octal.{octal_text}
-use Rattle.m11_base.specs.Sink.{AppendsBeginning}
+use Rattle.m11_base.specs.Sink.{AppendsPrefix}
 use Rattle.m11_cpu_machine.specs.Stop.{stop_name}
 use Rattle.m11_cpu_machine.specs.declared.stop.Stop.{Stop}
 use Rattle.m11_cpu.specs.declared.fault.SimFault.{SimFault}
@@ -43,6 +43,6 @@ messages_of stop steps registers psw = end_text (stop_name stop) steps registers
 -- the text was written, or the sink failed after accepting a prefix of it (`Write`); no other fault occurs
 abbrev pub PutsMessages : {A : Type 0} → Option Bytes → Option Bytes → ℕ → ℕ → Bytes → Result A SimFault → Type 0
 PutsMessages old new faults faults' text (Ok done) = Appends old new text × (faults' ≡ faults)
-PutsMessages old new faults faults' text (Err Write) = AppendsBeginning old new text × Rises faults faults'
+PutsMessages old new faults faults' text (Err Write) = AppendsPrefix old new text × Rises faults faults'
 PutsMessages old new faults faults' text (Err NoMemory) = ⊥
 PutsMessages old new faults faults' text (Err (Load fault)) = ⊥

@@ -2,7 +2,7 @@
 use Rattle.std.specs.Prelude.{◌≡◌, ℕ, ◌%◌, ◌==◌, if◌then◌else◌, Option, unwrap_or, Result, Ok, Err}
 use Rattle.std.specs.Io.KnownBytes.{Appends}
 use Rattle.m11_base.specs.Devices.{Bytes, Rises}
-use Rattle.m11_base.specs.Sink.{AppendsBeginning}
+use Rattle.m11_base.specs.Sink.{AppendsPrefix}
 use Rattle.m11_base.specs.declared.operand.Register.TheVariants.{Pc}
 use Rattle.m11_cpu_machine.specs.Dialogue.{Dialogue, Comes, Devices, Does, Input, Output}
 use Rattle.m11_cpu.specs.Loading.{LoadsInto}
@@ -69,7 +69,7 @@ Simulates request before after (Err (Load fault)) =
     × (after.messages ≡ before.messages)
 Simulates request before after (Err Write) =
     (ran : Ran) × (m : Machine) × HasRun request before after ran m
-    × AppendsBeginning before.messages.text after.messages.text (text_at_stop ran m)
+    × AppendsPrefix before.messages.text after.messages.text (text_at_stop ran m)
     × Rises before.messages.faults after.messages.faults
 Simulates request before after (Err NoMemory) =
     (after.tape ≡ before.tape) × (after.console ≡ before.console) × (after.messages ≡ before.messages)

@@ -198,7 +198,7 @@ right_by value zero below =
     let f =
     floored value 1 (times (cast_signed w32 value) 0) below (omega arith)
     (times_none (cast_signed w32 value) ∙ by_one (cast_signed w32 value)) in
-    record { from = f.0; to = f.1; by_steps = f.3 ∙ times_none (cast_signed w32 value); sign_kept = f.2; carry = refl }
+    record { from = f.0; to = f.1; by_steps = f.3 ∙ times_none (cast_signed w32 value); overflow_is_clear = f.2; carry = refl }
 right_by value (suc n) below =
     let number : ℤ = cast_signed w32 value in
     let f = floored value (2 ^ suc n) (int_div_euclid number (pos (2 ^ suc n))) below (pow_pos (suc n)) refl in
@@ -206,7 +206,7 @@ right_by value (suc n) below =
       from = f.0;
       to = f.1;
       by_steps = f.3 ∙ sym (steps_right_are number (suc n));
-      sign_kept = f.2;
+      overflow_is_clear = f.2;
       carry = ap (λ z. modulo 2 z == 1) (sym (steps_right_are number n));
     }
 

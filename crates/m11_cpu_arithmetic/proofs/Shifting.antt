@@ -246,7 +246,7 @@ right_by value zero below =
     let f =
     floored value 1 (times (signed Word value) 0) below (omega arith)
     (times_none (signed Word value) ∙ by_one (signed Word value)) in
-    record { from = f.0; to = f.1; by_steps = f.3 ∙ times_none (signed Word value); sign_kept = f.2; carry = refl }
+    record { from = f.0; to = f.1; by_steps = f.3 ∙ times_none (signed Word value); overflow_is_clear = f.2; carry = refl }
 right_by value (suc n) below =
     let number : ℤ = signed Word value in
     let f = floored value (2 ^ suc n) (int_div_euclid number (pos (2 ^ suc n))) below (pow_pos (suc n)) refl in
@@ -254,7 +254,7 @@ right_by value (suc n) below =
       from = f.0;
       to = f.1;
       by_steps = f.3 ∙ sym (steps_right_are number (suc n));
-      sign_kept = f.2;
+      overflow_is_clear = f.2;
       carry = ap (λ z. modulo 2 z == 1) (sym (steps_right_are number n));
     }
 

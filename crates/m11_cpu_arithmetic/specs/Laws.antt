@@ -143,7 +143,7 @@ pub record IsShiftedRight (value n : ℕ) (result : Computed) : Type 0 where
   pub from : (signed Word result.value *ℤ pos (2 ^ n)) ≤ℤ signed Word value
   pub to : signed Word value <ℤ ((signed Word result.value +ℤ pos 1) *ℤ pos (2 ^ n))
   pub by_steps : signed Word result.value ≡ steps_right n (signed Word value)
-  pub sign_kept : result.codes.overflow ≡ false
+  pub overflow_is_clear : result.codes.overflow ≡ false
   pub carry : result.codes.carry ≡ right_last n (signed Word value)
 
 -- ---- shifts of 32 bits
@@ -177,5 +177,5 @@ pub record IsPairShiftedRight (value n : ℕ) (result : Pair) : Type 0 where
   pub from : (joined result.high result.low *ℤ pos (2 ^ n)) ≤ℤ cast_signed w32 value
   pub to : cast_signed w32 value <ℤ ((joined result.high result.low +ℤ pos 1) *ℤ pos (2 ^ n))
   pub by_steps : joined result.high result.low ≡ steps_right n (cast_signed w32 value)
-  pub sign_kept : result.codes.overflow ≡ false
+  pub overflow_is_clear : result.codes.overflow ≡ false
   pub carry : result.codes.carry ≡ right_last n (cast_signed w32 value)

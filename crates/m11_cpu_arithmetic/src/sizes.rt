@@ -25,20 +25,20 @@ pub(crate) fn kept(size: Size, number: i32) -> u16
     ensures within { result < size_limit size }
 {
     match size {
-        Size::Word => kept_in_word(number),
-        Size::Byte => kept_in_byte(number),
+        Size::Word => truncate_to_word(number),
+        Size::Byte => truncate_to_byte(number),
     }
 }
 
 #[inline(always)]
-fn kept_in_word(number: i32) -> u16
+fn truncate_to_word(number: i32) -> u16
     ensures { result ≡ modulo 0o200000 number }
 {
     (number.cast_unsigned() % 0o200000) as u16
 }
 
 #[inline(always)]
-fn kept_in_byte(number: i32) -> u16
+fn truncate_to_byte(number: i32) -> u16
     ensures { result ≡ modulo 0o400 number }
 {
     (number.cast_unsigned() % 0o400) as u16

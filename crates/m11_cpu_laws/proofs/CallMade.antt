@@ -45,8 +45,8 @@ call_made = record {
     running = record { not_stopped = refl; not_traced = refl; registers = refl; words = words 0o111 };
     code = ((refl, omega arith), refl);
     linked = omega arith;
-    keeps_link = refl;
-    keeps_stack = refl;
+    link_not_stepped = refl;
+    stack_not_stepped = refl;
     pushed = (refl, omega arith);
   };
   target_formed = refl;
@@ -62,7 +62,7 @@ plain_call_made = record {
   is_call = record {
     running = record { not_stopped = refl; not_traced = refl; registers = refl; words = words 0o311 };
     code = ((refl, omega arith), refl);
-    keeps_stack = refl;
+    stack_not_stepped = refl;
     pushed = (refl, omega arith);
   };
   target_formed = refl;

@@ -149,7 +149,7 @@ pub calls_back : (register : Register) (operand : Operand) (m : Machine) → Cal
 calls_back register operand m es address formed c h =
     let not_counter : register_number register ≢ register_number Pc = λ e. let l = c.linked in omega arith in
     let f : Formed register m formed =
-    (call_forms register operand m c.running not_counter c.keeps_link c.keeps_stack).each es (Ok address, formed) h in
+    (call_forms register operand m c.running not_counter c.link_not_stepped c.stack_not_stepped).each es (Ok address, formed) h in
     let k : CounterAt ((register_of Pc m + call_length operand) % 0o200000) formed =
     (call_counts operand m c.running).each es (Ok address, formed) h in
     called_back register operand m formed es address c f k h

@@ -2,7 +2,7 @@
 use Rattle.std.proofs.Common.{◌≡◌, ℕ, Bool, true, false, List, [], ◌∷◌, ◌++◌, Option, Some, None, refl, sym, ◌∙◌, subst, ap, append_assoc}
 use Rattle.std.proofs.KnownBytes.{Appends-nil, Appends-trans}
 use Rattle.m11_base.specs.Feed.{Text, GivesByte, GivesEnd, GivesFailure, GivesBytes}
-use Rattle.m11_cpu_machine.specs.Dialogue.{Devices, Exchange, Asked, Sent, Reply, Gives, Ends, Fails, Did, Happened, Happens, Input, Output, Replies, DialogueTakes}
+use Rattle.m11_cpu_machine.specs.Dialogue.{Devices, Exchange, Asked, Sent, Reply, Gives, Ends, Fails, Did, Happened, Happens, Input, Output, Replies, DialogueAccepts}
 use Rattle.m11_cpu_laws.specs.Laws.{given, taken, GainedJust, GaveJust}
 
 gave_nothing : (t : Option Text) → GivesBytes t t []
@@ -86,7 +86,7 @@ gained_more (Some a) None c xs ys g h = absurd g
 gained_more (Some a) (Some b) None xs ys g h = absurd h
 gained_more (Some a) (Some b) (Some c) xs ys g h = Appends-trans a.text b.text c.text xs ys g h
 
-sent_gained : (o o' : Option Output) (byte : ℕ) (was_taken : Bool) → Did (λ x y. DialogueTakes x y byte was_taken) o o'
+sent_gained : (o o' : Option Output) (byte : ℕ) (was_taken : Bool) → Did (λ x y. DialogueAccepts x y byte was_taken) o o'
     → GainedJust o o' (taken (Sent byte was_taken ∷ []))
 sent_gained None o' byte was_taken h = absurd h
 sent_gained (Some o) None byte was_taken h = absurd h

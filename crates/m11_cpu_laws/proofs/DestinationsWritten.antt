@@ -30,7 +30,7 @@ use Rattle.m11_cpu_machine.specs.declared.execution.Ending.TheVariants as ending
 use Rattle.m11_cpu_machine.specs.declared.machine.Machine.{Machine}
 use Rattle.m11_cpu_machine.specs.declared.addressing.OperandLocation.{OperandLocation}
 use Rattle.m11_cpu_laws.proofs.Following.{Follows, follows_bind, follows_now, follows_then}
-use Rattle.m11_cpu_laws.proofs.MemoryKept.{bare_quiet, branched_same, compare_quiet, counted_same, extended_quiet, jump_quiet, Kept, kept_same, mark_quiet, location_quiet, return_quiet, Same, source_quiet, target_quiet, test_quiet, code_quiet}
+use Rattle.m11_cpu_laws.proofs.MemoryPreserved.{bare_quiet, branched_same, compare_quiet, counted_same, extended_quiet, jump_quiet, Kept, kept_same, mark_quiet, location_quiet, return_quiet, Same, source_quiet, target_quiet, test_quiet, code_quiet}
 use Rattle.m11_cpu_laws.proofs.Parts.{Always, at_bind, at_comes, at_map, Keeps, keeps_bind}
 use Rattle.m11_cpu_laws.proofs.LocationsStored.{double_stores, exclusive_stores, move_stores, result_stores, single_stores, Stores, word_stores, Writes}
 

@@ -11,7 +11,7 @@ use Rattle.m11_cpu_machine.specs.declared.stop.LastingStop.{LastingStop}
 use Rattle.m11_cpu_machine.specs.declared.stop.Stop.{Stop}
 use Rattle.m11_cpu_laws.specs.Failures.{StopsAtFailure}
 use Rattle.m11_cpu_laws.specs.Laws.{given}
-use Rattle.m11_cpu_laws.specs.Receiving.{AsksBeforeEnd, ReceiverChanges, last_given}
+use Rattle.m11_cpu_laws.specs.Receiving.{AsksBeforeEnd, ReceiverChanges, last_received}
 use Rattle.m11_cpu_laws.proofs.Parts.{parts}
 
 -- ---- each path through a dialogue
@@ -92,7 +92,7 @@ asked_joined a b c (Asked Ends ∷ es) fs h k = (h.0, asked_joined true b c es f
 asked_joined a b c (Asked Fails ∷ es) fs h k = (h.0, asked_joined false b c es fs h.1 k)
 asked_joined a b c (Sent byte taken ∷ es) fs h k = asked_joined a b c es fs h k
 
-last_joined : (byte : ℕ) (es fs : List Exchange) → last_given byte (es ++ fs) ≡ last_given (last_given byte es) fs
+last_joined : (byte : ℕ) (es fs : List Exchange) → last_received byte (es ++ fs) ≡ last_received (last_received byte es) fs
 last_joined byte [] fs = refl
 last_joined byte (Asked (Gives new) ∷ es) fs = last_joined new es fs
 last_joined byte (Asked Ends ∷ es) fs = last_joined byte es fs

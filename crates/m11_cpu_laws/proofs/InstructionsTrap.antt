@@ -43,7 +43,7 @@ use Rattle.m11_cpu_laws.specs.Addresses.{no_byte_at, no_word_at}
 use Rattle.m11_cpu_laws.specs.Writes.{push_address, stack_deepened}
 use Rattle.m11_cpu_laws.proofs.AccessesTrap.{Accesses, bind_never, comes_never, is_reached, load_byte_at, load_word_at, never_traps, NeverAt4, one_access, store_byte_at, store_word_at, then_accesses, then_quiet, through_access}
 use Rattle.m11_cpu_laws.proofs.AddressesTrap.{load_byte_traps, load_word_traps}
-use Rattle.m11_cpu_laws.proofs.MemoryKept.{fetch_quiet}
+use Rattle.m11_cpu_laws.proofs.MemoryPreserved.{fetch_quiet}
 use Rattle.m11_cpu_laws.proofs.StopsLast.{at_once}
 use Rattle.m11_cpu_laws.proofs.WordsPut.{put_other}
 

@@ -12,7 +12,7 @@ pub mod Following
 pub mod InstructionsTrap
 pub mod AddressesLeave
 pub mod LoadsHear
-pub mod MemoryKept
+pub mod MemoryPreserved
 pub mod Parts
 pub mod PartsReport
 pub mod OperandsFound
@@ -22,11 +22,11 @@ pub mod PlainCallsBack
 pub mod RegistersKept
 pub mod RunsJoined
 pub mod StackFaults
-pub mod StatusKept
+pub mod StatusPreserved
 pub mod StatusStored
 pub mod StepsInMemory
 pub mod StepsWrite
-pub mod StepsKeepRegisters
+pub mod StepsPreserveRegisters
 pub mod StepsReport
 pub mod StopsLast
 pub mod TargetsFormed

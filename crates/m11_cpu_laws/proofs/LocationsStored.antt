@@ -23,7 +23,7 @@ use Rattle.m11_cpu_machine.specs.declared.console.DeviceRegister.TheVariants.{Re
 use Rattle.m11_cpu_machine.specs.declared.machine.Machine.{Machine}
 use Rattle.m11_cpu_machine.specs.declared.addressing.OperandLocation.{OperandLocation}
 use Rattle.m11_cpu_machine.specs.declared.addressing.OperandLocation.TheVariants.{InRegister, InMemory}
-use Rattle.m11_cpu_laws.proofs.MemoryKept.{fetch_quiet, Kept, kept_byte, kept_same, kept_word, Same}
+use Rattle.m11_cpu_laws.proofs.MemoryPreserved.{fetch_quiet, Kept, kept_byte, kept_same, kept_word, Same}
 use Rattle.m11_cpu_laws.proofs.Parts.{Always, at_bind, at_comes, at_cond, at_sends}
 
 -- ---- writes after a known destination

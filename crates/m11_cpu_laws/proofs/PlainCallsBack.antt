@@ -101,7 +101,7 @@ pub plain_calls_back : (operand : Operand) (m : Machine) → PlainCallsReturn op
 plain_calls_back operand m es address formed c h =
     let not_counter : register_number Sp ≢ register_number Pc = λ e. omega arith in
     let f : Formed Sp m formed =
-    (call_forms Sp operand m c.running not_counter c.keeps_stack c.keeps_stack).each es (Ok address, formed) h in
+    (call_forms Sp operand m c.running not_counter c.stack_not_stepped c.stack_not_stepped).each es (Ok address, formed) h in
     let k : CounterAt ((register_of Pc m + call_length operand) % 0o200000) formed =
     (call_counts operand m c.running).each es (Ok address, formed) h in
     called_back operand m formed es address c f k h

@@ -46,7 +46,7 @@ use Rattle.m11_cpu_laws.specs.Registers.{by_destination, by_extended, changed_by
 use Rattle.m11_cpu_laws.specs.Returns.{is_stepping}
 use Rattle.m11_cpu_laws.specs.Writes.{IsNoneOf, stores_double, stores_single}
 use Rattle.m11_cpu_laws.proofs.AddressesLeave.{byte_keeps, location_keeps, next_word_keeps, target_keeps, word_keeps}
-use Rattle.m11_cpu_laws.proofs.MemoryKept.{none_left, none_right}
+use Rattle.m11_cpu_laws.proofs.MemoryPreserved.{none_left, none_right}
 use Rattle.m11_cpu_laws.proofs.Parts.{Always, at_bind, at_comes, at_cond, at_map, Keeps, keeps_bind}
 use Rattle.m11_cpu_laws.proofs.StepsWrite.{device_keeps, registers_kept}
 use Rattle.m11_cpu_laws.proofs.TracesFollow.{whatever}

@@ -11,7 +11,7 @@ use Rattle.m11_cpu_laws.specs.Laws.{AreJoined, StopLasts}
 use Rattle.m11_cpu.specs.Runs.{following, one_more, run_counted}
 use Rattle.m11_cpu_machine.specs.Steps.{step}
 use Rattle.m11_cpu_machine.proofs.Dialogues.{leads_after}
-use Rattle.m11_cpu_laws.proofs.StopsLast.{at_once, step_stands}
+use Rattle.m11_cpu_laws.proofs.StopsLast.{at_once, step_stop_lasts}
 
 -- a dialogue and the one after it, with the exchanges of each
 record Parts {A B : Type 0} (d : Dialogue A) (next : A → Dialogue B) (es : List Exchange) (y : B) : Type 0 where
@@ -112,7 +112,7 @@ joined_cases left second (Stopped stop) m m1 m' m'' es1 es2 fs steps r rest h k 
     let e = at_once _ _ es2 k in
     let limit : stop ≡ Limit = sym (ap (λ (x : Ran × Machine). x.0.stop) e) in
     let P : Stop → Type 0 = λ s. StopLasts (Stopped s) m1 in
-    absurd (subst P limit (step_stands m es1 (Stopped stop, m1) h))
+    absurd (subst P limit (step_stop_lasts m es1 (Stopped stop, m1) h))
 
 pub runs_joined : (first second : ℕ) (m m' m'' : Machine) → AreJoined first second m m' m''
 unfolding run_counted

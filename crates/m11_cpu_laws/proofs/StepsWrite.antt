@@ -26,7 +26,7 @@ use Rattle.m11_cpu_machine.specs.declared.stop.Turn.TheVariants as turn
 use Rattle.m11_cpu_laws.proofs.AbortsLeave.{abort_leaves}
 use Rattle.m11_cpu_laws.proofs.DestinationsWritten.{instruction_follows}
 use Rattle.m11_cpu_laws.proofs.Following.{within_more}
-use Rattle.m11_cpu_laws.proofs.MemoryKept.{Kept, kept_more, kept_same}
+use Rattle.m11_cpu_laws.proofs.MemoryPreserved.{Kept, kept_more, kept_same}
 use Rattle.m11_cpu_laws.proofs.Parts.{Always, at_after, at_bind, at_comes, at_cond, at_map, at_sends, Keeps, parts}
 use Rattle.m11_cpu_laws.proofs.LocationsStored.{Stores, word_stores}
 

@@ -83,9 +83,9 @@ unless_stands None m es y e h =
     let b = after_it (instruction m) (λ came. turned came.0 came.1) es y h in
     turned_stands b.0.0 b.0.1 b.1 y b.2
 
-pub step_stands : (m : Machine) (es : List Exchange) (y : Turn × Machine) → Leads (step m) es y → StopLasts y.0 y.1
+pub step_stop_lasts : (m : Machine) (es : List Exchange) (y : Turn × Machine) → Leads (step m) es y → StopLasts y.0 y.1
 unfolding step
-step_stands m es y h = unless_stands m.stopped m es y refl h
+step_stop_lasts m es y h = unless_stands m.stopped m es y refl h
 
 -- a stored stop is returned again, and nothing changes
 pub step_again : (m : Machine) (stop : LastingStop) → m.stopped ≡ Some stop → step m ≡ Comes (Stopped (stop_of stop), m)

@@ -64,7 +64,7 @@ pub call_forms : (register : Register) (operand : Operand) (m : Machine) → IsR
     → register_number register ≢ register_number Pc → steps operand register ≡ false → steps operand Sp ≡ false
     → Keeps (Formed register m) (target operand (advanced Pc 2 m))
 unfolding target
-call_forms register operand m running not_counter keeps_link keeps_stack =
+call_forms register operand m running not_counter link_not_stepped stack_not_stepped =
     let apart : register_number Sp ≢ register_number Pc = λ e. omega arith in
     let begun : Formed register m m = record {
       count = running.registers;
@@ -77,8 +77,8 @@ call_forms register operand m running not_counter keeps_link keeps_stack =
     target_keeps (Formed register m) operand Word (advanced Pc 2 m)
     (location_keeps (Formed register m) (formed_receives register m)
     (λ n v f. formed_puts register Pc m n v not_counter apart f) operand Word (advanced Pc 2 m)
-    (λ s n v f. formed_puts register operand.register m n v (unstepped _ _ _ keeps_link s)
-    (unstepped _ _ _ keeps_stack s) f)
+    (λ s n v f. formed_puts register operand.register m n v (unstepped _ _ _ link_not_stepped s)
+    (unstepped _ _ _ stack_not_stepped s) f)
     (formed_puts register Pc m m _ not_counter apart begun))
 
 -- the program counter has this value, and there are eight registers

@@ -15,18 +15,18 @@ AsksBeforeEnd ended (Asked Fails ∷ es) ended' = (ended ≡ false) × AsksBefor
 AsksBeforeEnd ended (Sent byte taken ∷ es) ended' = AsksBeforeEnd ended es ended'
 
 -- the last byte that arrived, or this byte if none arrived
-abbrev pub last_given : ℕ → List Exchange → ℕ
-last_given byte [] = byte
-last_given byte (Asked (Gives new) ∷ es) = last_given new es
-last_given byte (Asked Ends ∷ es) = last_given byte es
-last_given byte (Asked Fails ∷ es) = last_given byte es
-last_given byte (Sent sent taken ∷ es) = last_given byte es
+abbrev pub last_received : ℕ → List Exchange → ℕ
+last_received byte [] = byte
+last_received byte (Asked (Gives new) ∷ es) = last_received new es
+last_received byte (Asked Ends ∷ es) = last_received byte es
+last_received byte (Asked Fails ∷ es) = last_received byte es
+last_received byte (Sent sent taken ∷ es) = last_received byte es
 
 -- a receiver changes in these exchanges as follows: nothing is requested after the end of the input; the receiver's byte is the last byte
 -- that arrived, or the old byte if none arrived; and done is set only if a byte arrived or done was set before
 pub record ReceiverChanges (old : Receiver) (exchanges : List Exchange) (new : Receiver) : Type 0 where
   pub asked : AsksBeforeEnd old.has_ended exchanges new.has_ended
-  pub byte : new.byte ≡ last_given old.byte exchanges
+  pub byte : new.byte ≡ last_received old.byte exchanges
   pub done : given exchanges ≡ [] → new.is_done ≡ true → old.is_done ≡ true
 
 -- the address is that of the receiver's status register, done is clear, and the input hasn't ended

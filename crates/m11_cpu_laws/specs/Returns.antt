@@ -88,8 +88,8 @@ pub record IsCall (register : Register) (operand : Operand) (m : Machine) : Type
   pub running : IsRunning m
   pub code : IsAt (insn.Register Jsr register operand) m
   pub linked : register_number register < 6
-  pub keeps_link : steps operand register ≡ false
-  pub keeps_stack : steps operand Sp ≡ false
+  pub link_not_stepped : steps operand register ≡ false
+  pub stack_not_stepped : steps operand Sp ≡ false
   pub pushed : IsWordInside (push_address m) m
 
 -- one more step leads to the word after the call, and the register and the stack pointer are as before
@@ -129,7 +129,7 @@ pub record CallIsMade : Type 0 where
 pub record IsPlainCall (operand : Operand) (m : Machine) : Type 0 where
   pub running : IsRunning m
   pub code : IsAt (insn.Register Jsr Pc operand) m
-  pub keeps_stack : steps operand Sp ≡ false
+  pub stack_not_stepped : steps operand Sp ≡ false
   pub pushed : IsWordInside (push_address m) m
 
 -- one more step leads to the word after the call, and the stack pointer is as before

@@ -22,7 +22,7 @@ pub fn console_is_exact()
 
 /// A step that stops because of a stack fault or a failed device stores this stop in the machine; no step stops because of a limit or an
 /// odd start address. Every further step of a machine with a stored stop returns that stop and changes nothing.
-#[tactic(auto, using(crate::proofs::StopsLast::step_stands, crate::proofs::StopsLast::step_again))]
+#[tactic(auto, using(crate::proofs::StopsLast::step_stop_lasts, crate::proofs::StopsLast::step_again))]
 pub fn stops_last()
     ensures kept { (m : Machine) (exchanges : List Exchange) (came : Turn × Machine)
         → Leads (step m) exchanges came → StopLasts came.0 came.1 }

@@ -15,7 +15,7 @@ mod status_word;
 mod writes;
 
 pub use registers::{odd_registers_are_both_words, registers_stay};
-pub use status_word::{status_word_takes_what_is_stored, trace_bit_stays};
+pub use status_word::{status_word_becomes_what_is_stored, trace_bit_stays};
 pub use writes::memory_stays;
 
 // What a step leads to: branches, calls, traps, the trace trap.

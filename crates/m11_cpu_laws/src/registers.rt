@@ -26,7 +26,7 @@ ghost use Rattle.m11_cpu_laws.specs.Writes.{MakesSteps};
 /// stack pointer. A trap changes at most the program counter and the stack pointer. A step changes at most what its instruction changes,
 /// even if that is aborted, and then the program counter and the stack pointer if a trap follows, including the trace trap. (PDP-11/40
 /// Processor Handbook, "Addressing modes", "Instruction set".)
-#[tactic(auto, using(crate::proofs::StepsKeepRegisters::execute_stays, crate::proofs::StepsKeepRegisters::trap_stays, crate::proofs::StepsKeepRegisters::step_stays, crate::proofs::StepsKeepRegisters::fetch_stays))]
+#[tactic(auto, using(crate::proofs::StepsPreserveRegisters::execute_stays, crate::proofs::StepsPreserveRegisters::trap_stays, crate::proofs::StepsPreserveRegisters::step_stays, crate::proofs::StepsPreserveRegisters::fetch_stays))]
 pub fn registers_stay()
     ensures fetch { (m m' : Machine) (came : Result ℕ Abort) (exchanges : List Exchange)
         → Leads (next_word m) exchanges (came, m') → RegistersStay [] m m' }

@@ -21,7 +21,7 @@ ghost use Rattle.m11_cpu_laws.specs.StatusWord.{CallsAtStatus, DoublesAtStatus, 
 /// for a register that JSR pushes there. A byte stored at 177777 is ignored, the byte there reads as 0, and the condition codes are
 /// those of the instruction. (PDP-11/40 Processor Handbook, "Processor status word".)
 #[tactic(auto, using(crate::proofs::StatusStored::calls_at_status))]
-pub fn status_word_takes_what_is_stored()
+pub fn status_word_becomes_what_is_stored()
     ensures doubles { (operation : DoubleOp) (size : Size) (source destination : Operand) (m : Machine)
         → DoublesAtStatus operation size source destination m }
     ensures singles { (operation : SingleOp) (size : Size) (operand : Operand) (m : Machine)
@@ -33,7 +33,7 @@ pub fn status_word_takes_what_is_stored()
 /// No instruction but RTI and RTT changes T, whatever it stores or pushes, even if it is aborted. RTI and RTT load T, with the
 /// whole status word, from the second word that they pop, and a trap loads the whole status word from the second word of its
 /// vector. (PDP-11/40 Processor Handbook, "Trace trap", "Processor traps", RTI, RTT.)
-#[tactic(auto, using(crate::proofs::StatusKept::trace_stays, crate::proofs::StatusKept::traps_load, crate::proofs::StatusStored::returns_load))]
+#[tactic(auto, using(crate::proofs::StatusPreserved::trace_stays, crate::proofs::StatusPreserved::traps_load, crate::proofs::StatusStored::returns_load))]
 pub fn trace_bit_stays()
     ensures stays { (code : Insn) (m m' : Machine) (came : Result Ending Abort) (exchanges : List Exchange)
         → loads_trace code ≡ false → Leads (execute code m) exchanges (came, m') → m'.status.trace ≡ m.status.trace }

@@ -14,7 +14,7 @@ use Rattle.m11_cpu_machine.specs.DoubleOperands.{change_exclusive}
 use Rattle.m11_cpu_machine.specs.Jumps.{push}
 use Rattle.m11_cpu_machine.specs.Addressing.{in_memory, store_result}
 use Rattle.m11_cpu_machine.specs.Acts.{Act, value, ◌>>=◌}
-use Rattle.m11_cpu_machine.specs.Dialogue.{Reply, Dialogue, Comes, Asks, Sends, after, Exchange, Asked, Sent, Leads, Devices, Happened, Does, Replies, DialogueTakes, Input, Output}
+use Rattle.m11_cpu_machine.specs.Dialogue.{Reply, Dialogue, Comes, Asks, Sends, after, Exchange, Asked, Sent, Leads, Devices, Happened, Does, Replies, DialogueAccepts, Input, Output}
 
 pub leads_after : {A B : Type 0} (d : Dialogue A) (es fs : List Exchange) (x : A) (next : A → Dialogue B) (y : B)
     → Leads d es x → Leads (next x) fs y → Leads (after d next) (es ++ fs) y
@@ -85,7 +85,7 @@ asks by i i' new y reply r k = record {
 }
 
 pub sends : {A : Type 0} (byte : ℕ) (by : Bool → Dialogue A) (o o' : Output) (new : Devices) (y : A) (taken : Bool)
-    → DialogueTakes o o' byte taken → Does (by taken) (record { input = None; output = Some o' }) new y
+    → DialogueAccepts o o' byte taken → Does (by taken) (record { input = None; output = Some o' }) new y
     → Does (Sends byte by) (record { input = None; output = Some o }) new y
 unfolding Leads Happened
 sends byte by o o' new y taken t k = record {
@@ -96,17 +96,17 @@ sends byte by o o' new y taken t k = record {
 
 -- a dialogue whose only exchange sends a byte yields what follows the output's reply, which a call has returned
 pub sends_at_once : {A : Type 0} (byte : ℕ) (by : Bool → Dialogue A) (o o' : Output) (y : A) (taken : Bool)
-    → DialogueTakes o o' byte taken
+    → DialogueAccepts o o' byte taken
     → Does (by taken) (record { input = None; output = Some o' }) (record { input = None; output = Some o' }) y
     → Does (Sends byte by) (record { input = None; output = Some o }) (record { input = None; output = Some o' }) y
 sends_at_once byte by o o' y taken t k = sends byte by o o' _ y taken t k
 
 -- if one byte is put, the output accepts it if the count is 1, and nothing if the count is 0
-pub takes_by_count : (o o' : Output) (byte count : ℕ) → count ≤ 1 → Appends o.text o'.text (take count (byte ∷ []))
-    → CountsAt o.faults o'.faults count 1 → DialogueTakes o o' byte (not (count == 0))
-takes_by_count o o' byte zero le a c = (a, c)
-takes_by_count o o' byte (suc zero) le a c = (a, c)
-takes_by_count o o' byte (suc (suc n)) le a c = absurd (omega arith)
+pub accepts_by_count : (o o' : Output) (byte count : ℕ) → count ≤ 1 → Appends o.text o'.text (take count (byte ∷ []))
+    → CountsAt o.faults o'.faults count 1 → DialogueAccepts o o' byte (not (count == 0))
+accepts_by_count o o' byte zero le a c = (a, c)
+accepts_by_count o o' byte (suc zero) le a c = (a, c)
+accepts_by_count o o' byte (suc (suc n)) le a c = absurd (omega arith)
 
 -- ---- with one more device, which takes no part
 

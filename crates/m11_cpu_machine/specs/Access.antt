@@ -38,13 +38,13 @@ receiver_status m =
     else Comes (Ok (receiver_bits m.receiver), m)
 
 -- the receiver's byte, and the machine with done cleared; the byte stays in the receiver
-abbrev pub take_character : Machine → ℕ × Machine
-take_character m = (m.receiver.byte, record m { receiver = record m.receiver { is_done = false } })
+abbrev pub read_receiver : Machine → ℕ × Machine
+read_receiver m = (m.receiver.byte, record m { receiver = record m.receiver { is_done = false } })
 
 -- a read of a device register: its value, and the effect that the read has; a bus error if there is no register
 abbrev pub load_register : Option DeviceRegister → Act ℕ
 load_register (Some ReceiverStatus) m = receiver_status m
-load_register (Some ReceiverBuffer) m = Comes (Ok (take_character m).0, (take_character m).1)
+load_register (Some ReceiverBuffer) m = Comes (Ok (read_receiver m).0, (read_receiver m).1)
 load_register (Some TransmitterStatus) m = Comes (Ok (transmitter_bits m.transmitter), m)
 load_register (Some TransmitterBuffer) m = Comes (Ok 0, m)
 load_register (Some ProcessorStatus) m = Comes (Ok (psw_of m.status), m)

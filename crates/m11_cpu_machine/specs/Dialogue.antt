@@ -71,9 +71,9 @@ abbrev pub output_alone : Option Bytes → ℕ → Devices
 output_alone text faults = record { input = None; output = Some (output_of text faults) }
 
 abbrev pub both : Option Text → ℕ → Option Bytes → ℕ → Devices
-both given given_faults taken taken_faults = record {
-  input = Some (record { text = given; faults = given_faults });
-  output = Some (output_of taken taken_faults);
+both given input_faults taken output_faults = record {
+  input = Some (record { text = given; faults = input_faults });
+  output = Some (output_of taken output_faults);
 }
 
 -- the input gave this reply
@@ -83,9 +83,9 @@ Replies old new Ends = GivesEnd old.text new.text × (new.faults ≡ old.faults)
 Replies old new Fails = GivesFailure old.text new.text old.faults × Rises old.faults new.faults
 
 -- the output accepted the byte, or failed and accepted nothing
-abbrev pub DialogueTakes : Output → Output → ℕ → Bool → Type 0
-DialogueTakes old new byte true = Appends old.text new.text (byte ∷ []) × (new.faults ≡ old.faults)
-DialogueTakes old new byte false = Appends old.text new.text [] × Rises old.faults new.faults
+abbrev pub DialogueAccepts : Output → Output → ℕ → Bool → Type 0
+DialogueAccepts old new byte true = Appends old.text new.text (byte ∷ []) × (new.faults ≡ old.faults)
+DialogueAccepts old new byte false = Appends old.text new.text [] × Rises old.faults new.faults
 
 -- the device is there before and after, and this relation holds between its two states
 abbrev pub Did : {D : Type 0} → (D → D → Type 0) → Option D → Option D → Type 0
@@ -95,7 +95,7 @@ Did did (Some old) (Some new) = did old new
 
 abbrev pub Happens : Devices → Devices → Exchange → Type 0
 Happens old new (Asked reply) = Did (λ i i'. Replies i i' reply) old.input new.input × (new.output ≡ old.output)
-Happens old new (Sent byte taken) = Did (λ o o'. DialogueTakes o o' byte taken) old.output new.output × (new.input ≡ old.input)
+Happens old new (Sent byte taken) = Did (λ o o'. DialogueAccepts o o' byte taken) old.output new.output × (new.input ≡ old.input)
 
 unfoldable pub Happened : Devices → Devices → List Exchange → Type 0
 Happened old new [] = new ≡ old

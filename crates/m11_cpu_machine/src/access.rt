@@ -1,8 +1,8 @@
 //! Reading and writing at addresses: memory, the console's registers, the processor status word.
 
 ghost use Rattle.std.specs.Prelude.{◌≡◌, ◌<◌, ◌%◌, IfOk};
-ghost use Rattle.m11_cpu_machine.specs.Dialogue.{Does, DialogueTakes, input_alone, output_alone, output_of};
-ghost use Rattle.m11_cpu_machine.specs.Access.{load_word, load_byte, load_device, load_odd, receive, receiver_status, take_character, store_word, store_byte, store_device, store_odd, send};
+ghost use Rattle.m11_cpu_machine.specs.Dialogue.{Does, DialogueAccepts, input_alone, output_alone, output_of};
+ghost use Rattle.m11_cpu_machine.specs.Access.{load_word, load_byte, load_device, load_odd, receive, receiver_status, read_receiver, store_word, store_byte, store_device, store_odd, send};
 
 use crate::abort::{Abort, Vector};
 use crate::console::{DeviceRegister, device_at};
@@ -62,7 +62,7 @@ impl Machine {
     {
         match device_at(address) {
             Some(DeviceRegister::ReceiverStatus) => self.receiver_status(feed),
-            Some(DeviceRegister::ReceiverBuffer) => Ok(self.take_character()),
+            Some(DeviceRegister::ReceiverBuffer) => Ok(self.read_receiver()),
             Some(DeviceRegister::TransmitterStatus) => Ok(self.transmitter.status()),
             Some(DeviceRegister::TransmitterBuffer) => Ok(0),
             Some(DeviceRegister::ProcessorStatus) => Ok(self.status.bits()),
@@ -106,8 +106,8 @@ impl Machine {
     }
 
     // The receiver's byte. Done is cleared, and the byte stays in the receiver.
-    fn take_character(&mut self) -> u16
-        ensures taken { (result, self.new) ≡ take_character self.old }
+    fn read_receiver(&mut self) -> u16
+        ensures taken { (result, self.new) ≡ read_receiver self.old }
         ensures byte { result < 256 }
     {
         self.receiver.is_done = false;
@@ -203,9 +203,9 @@ impl Machine {
 }
 
 // Writes one byte to the output. Returns whether the output accepted it: false if it failed or accepted nothing.
-#[tactic(auto, using(crate::proofs::Dialogues::takes_by_count))]
+#[tactic(auto, using(crate::proofs::Dialogues::accepts_by_count))]
 fn put_byte<S: Sink>(sink: &mut S, byte: u8) -> bool
-    ensures { DialogueTakes (output_of (S.text sink.old) (S.faults sink.old)) (output_of (S.text sink.new) (S.faults sink.new))
+    ensures { DialogueAccepts (output_of (S.text sink.old) (S.faults sink.old)) (output_of (S.text sink.new) (S.faults sink.new))
         byte result }
 {
     match sink.put(&[byte]) {

@@ -24,7 +24,7 @@ use Rattle.m11_cpu_machine.specs.DoubleOperands.{change_double, compare, double_
 use Rattle.m11_cpu_machine.specs.Execution.{execute}
 use Rattle.m11_cpu_machine.specs.Machine.{advanced, register_of, with_register}
 use Rattle.m11_cpu_machine.specs.Memory.{byte_at, with_byte, with_word, word_at}
-use Rattle.m11_cpu_quick.specs.Near.{NearKeeps, is_plain, plain_at}
+use Rattle.m11_cpu_quick.specs.Near.{SameStopAndTrace, is_plain, plain_at}
 use Rattle.m11_cpu_machine.specs.Addressing.{deferred, fetch, fetch_operand, indexed, next_word, location_by, location_of, stepped_back, step_of, store}
 use Rattle.m11_cpu_quick.specs.Quick.{QuickRuns, StepsAtOnce}
 use Rattle.m11_cpu_machine.specs.SingleOperands.{change_single, single, single_by, test_operand, write}
@@ -283,7 +283,7 @@ single_changes operation size operand m n e f =
 pub step_made : (m k n : Machine) (counter word : ℕ) → word < 65536 → QuickRuns m → counter ≡ register_of Pc m
     → is_plain Word counter m.memory ≡ true → word ≡ plain_at Word counter m.memory
     → k ≡ with_register Pc ((counter + 2) % 0o200000) m
-    → execute (meaning (operation_by_tables word) word) k ≡ Comes (Ok ending.Next, n) → NearKeeps k n
+    → execute (meaning (operation_by_tables word) word) k ≡ Comes (Ok ending.Next, n) → SameStopAndTrace k n
     → step m ≡ Comes (Next, n)
 unfolding step instruction
 step_made m k n counter word h r e p w f x t =

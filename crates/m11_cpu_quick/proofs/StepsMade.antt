@@ -32,7 +32,7 @@ use Rattle.m11_cpu_machine.specs.DoubleOperands.{double, exclusive_or}
 use Rattle.m11_cpu_machine.specs.Execution.{bare, conditions_applied, execute, on_register, return_from_trap}
 use Rattle.m11_cpu_machine.specs.Jumps.{branched, call, counted_down, jump, return_by}
 use Rattle.m11_cpu_machine.specs.Machine.{register_of}
-use Rattle.m11_cpu_quick.specs.Near.{NearEnds, NearKeeps, Yields, is_plain, plain_at}
+use Rattle.m11_cpu_quick.specs.Near.{NearEnds, SameStopAndTrace, Yields, is_plain, plain_at}
 use Rattle.m11_cpu_quick.specs.Beside.{shown}
 use Rattle.m11_cpu_quick.specs.Quick.{QuickRuns, StepsAtOnce}
 use Rattle.m11_cpu_machine.specs.SingleOperands.{single}
@@ -94,7 +94,7 @@ pub made : (next after word : ℕ) (rs rs' : List ℕ) (m n : Machine) → word 
     → is_plain Word next m.memory ≡ true → word ≡ plain_at Word next m.memory
     → Yields (execute (meaning (operation_by_tables word) word)) (shown ((next + 2) % 0o200000) rs m) ending.Next
     (shown after rs' n)
-    → NearKeeps m n → step (shown next rs m) ≡ Comes (Next, shown after rs' n)
+    → SameStopAndTrace m n → step (shown next rs m) ≡ Comes (Next, shown after rs' n)
 made next after word rs rs' m n h r l p w x t =
     step_made (shown next rs m) (shown ((next + 2) % 0o200000) rs m) (shown after rs' n) next word h r
     (sym (counter_read next rs m l)) p w (sym (counter_put next ((next + 2) % 0o200000) rs m)) x t

@@ -32,8 +32,8 @@ abbrev pub NearEnds : Act (Unit {0}) → Machine → Machine → Type 0
 NearEnds act m n = act m ≡ Comes (Ok tt, n)
 
 -- a machine keeps its lasting stop and its T bit
-abbrev pub NearKeeps : Machine → Machine → Type 0
-NearKeeps m n = (n.stopped ≡ m.stopped) × (n.status.trace ≡ m.status.trace)
+abbrev pub SameStopAndTrace : Machine → Machine → Type 0
+SameStopAndTrace m n = (n.stopped ≡ m.stopped) × (n.status.trace ≡ m.status.trace)
 
 -- an operation on a fetched source: the location of its destination is found, and the operation is done there
 abbrev pub double_onto : DoubleOp → Size → ℕ → Operand → Act (Unit {0})

@@ -5,7 +5,7 @@ ghost use Rattle.std.specs.Prelude.{◌≡◌, IfSome, None};
 ghost use Rattle.m11_base.specs.declared.instruction.SingleOp.TheVariants as one;
 ghost use Rattle.m11_base.specs.declared.operand.Size.TheVariants as size;
 ghost use Rattle.m11_cpu_quick.specs.Kinds.{Describes, DescribesDouble, IsBranch, IsCall, IsCount, IsDouble, IsOnCarry, IsProduct, IsReturn, IsSingle};
-ghost use Rattle.m11_cpu_quick.specs.Near.{NearKeeps};
+ghost use Rattle.m11_cpu_quick.specs.Near.{SameStopAndTrace};
 ghost use Rattle.m11_cpu_quick.specs.Quick.{Executes};
 ghost use Rattle.m11_cpu_quick.specs.declared.forms.Form.TheVariants as form;
 
@@ -16,7 +16,7 @@ use crate::forms::Form;
 use crate::forms::Form::{
     Absolute, Decrement, Deferred, Immediate, Increment, Index, IndexPointer, Register, Relative,
 };
-use crate::jumps::{call, count_down, jump, return_by_counter, take_branch};
+use crate::jumps::{call, count_down, execute_branch, jump, return_by_counter};
 use crate::kinds::Kind;
 use crate::singles::single;
 use m11_base::DoubleOp::{Add, Bic, Bis, Bit, Cmp, Mov, Sub};
@@ -43,7 +43,7 @@ pub(crate) fn act(
     requires { Describes kind code.word }
     ensures some { IfSome result (λ after.
         Executes code.word code.counter registers.old machine.old after registers.new machine.new) }
-    ensures keeps { NearKeeps machine.old machine.new }
+    ensures keeps { SameStopAndTrace machine.old machine.new }
     ensures none { result ≡ None → machine.new ≡ machine.old }
     ensures registers { result ≡ None → registers.new ≡ registers.old }
 {
@@ -67,7 +67,7 @@ fn act_on_two(
     requires { DescribesDouble kind code.word }
     ensures some { IfSome result (λ after.
         Executes code.word code.counter registers.old machine.old after registers.new machine.new) }
-    ensures keeps { NearKeeps machine.old machine.new }
+    ensures keeps { SameStopAndTrace machine.old machine.new }
     ensures none { result ≡ None → machine.new ≡ machine.old }
     ensures registers { result ≡ None → registers.new ≡ registers.old }
 {
@@ -171,7 +171,7 @@ fn act_on_others(
     requires { Describes kind code.word }
     ensures some { IfSome result (λ after.
         Executes code.word code.counter registers.old machine.old after registers.new machine.new) }
-    ensures keeps { NearKeeps machine.old machine.new }
+    ensures keeps { SameStopAndTrace machine.old machine.new }
     ensures none { result ≡ None → machine.new ≡ machine.old }
     ensures registers { result ≡ None → registers.new ≡ registers.old }
 {
@@ -270,7 +270,7 @@ fn to_register(
     requires { IsDouble operation size source form.Register code.word }
     ensures some { IfSome result (λ after.
         Executes code.word code.counter registers.old machine.old after registers.new machine.new) }
-    ensures keeps { NearKeeps machine.old machine.new }
+    ensures keeps { SameStopAndTrace machine.old machine.new }
     ensures none { result ≡ None → machine.new ≡ machine.old }
     ensures registers { result ≡ None → registers.new ≡ registers.old }
 {
@@ -303,7 +303,7 @@ fn to_memory(
     requires { IsDouble operation size source destination code.word }
     ensures some { IfSome result (λ after.
         Executes code.word code.counter registers.old machine.old after registers.new machine.new) }
-    ensures keeps { NearKeeps machine.old machine.new }
+    ensures keeps { SameStopAndTrace machine.old machine.new }
     ensures none { result ≡ None → machine.new ≡ machine.old }
     ensures registers { result ≡ None → registers.new ≡ registers.old }
 {
@@ -336,7 +336,7 @@ fn on_one(
     requires { IsSingle operation size form code.word }
     ensures some { IfSome result (λ after.
         Executes code.word code.counter registers.old machine.old after registers.new machine.new) }
-    ensures keeps { NearKeeps machine.old machine.new }
+    ensures keeps { SameStopAndTrace machine.old machine.new }
     ensures none { result ≡ None → machine.new ≡ machine.old }
     ensures registers { result ≡ None → registers.new ≡ registers.old }
 {
@@ -364,11 +364,11 @@ fn go(
     requires { IsBranch operation code.word }
     ensures some { IfSome result (λ after.
         Executes code.word code.counter registers.old machine.old after registers.new machine.new) }
-    ensures keeps { NearKeeps machine.old machine.new }
+    ensures keeps { SameStopAndTrace machine.old machine.new }
     ensures none { result ≡ None → machine.new ≡ machine.old }
     ensures registers { result ≡ None → registers.new ≡ registers.old }
 {
-    Some(take_branch(machine, operation, code.word, registers, code.counter))
+    Some(execute_branch(machine, operation, code.word, registers, code.counter))
 }
 
 // Executes SOB.
@@ -377,7 +377,7 @@ fn count(machine: &mut Machine, code: Code, registers: &mut [u16; 8]) -> Option<
     requires { IsCount code.word }
     ensures some { IfSome result (λ after.
         Executes code.word code.counter registers.old machine.old after registers.new machine.new) }
-    ensures keeps { NearKeeps machine.old machine.new }
+    ensures keeps { SameStopAndTrace machine.old machine.new }
     ensures none { result ≡ None → machine.new ≡ machine.old }
     ensures registers { result ≡ None → registers.new ≡ registers.old }
 {
@@ -391,7 +391,7 @@ fn jump_to(machine: &mut Machine, form: Form, code: Code, registers: &mut [u16; 
     requires { IsSingle one.Jmp size.Word form code.word }
     ensures some { IfSome result (λ after.
         Executes code.word code.counter registers.old machine.old after registers.new machine.new) }
-    ensures keeps { NearKeeps machine.old machine.new }
+    ensures keeps { SameStopAndTrace machine.old machine.new }
     ensures none { result ≡ None → machine.new ≡ machine.old }
     ensures registers { result ≡ None → registers.new ≡ registers.old }
 {
@@ -406,7 +406,7 @@ fn call_to(machine: &mut Machine, form: Form, code: Code, registers: &mut [u16; 
     requires { IsCall form code.word }
     ensures some { IfSome result (λ after.
         Executes code.word code.counter registers.old machine.old after registers.new machine.new) }
-    ensures keeps { NearKeeps machine.old machine.new }
+    ensures keeps { SameStopAndTrace machine.old machine.new }
     ensures none { result ≡ None → machine.new ≡ machine.old }
     ensures registers { result ≡ None → registers.new ≡ registers.old }
 {
@@ -421,7 +421,7 @@ fn return_to(machine: &mut Machine, code: Code, registers: &mut [u16; 8]) -> Opt
     requires { IsReturn code.word }
     ensures some { IfSome result (λ after.
         Executes code.word code.counter registers.old machine.old after registers.new machine.new) }
-    ensures keeps { NearKeeps machine.old machine.new }
+    ensures keeps { SameStopAndTrace machine.old machine.new }
     ensures none { result ≡ None → machine.new ≡ machine.old }
     ensures registers { result ≡ None → registers.new ≡ registers.old }
 {
@@ -440,7 +440,7 @@ fn on_carry(
     requires { IsOnCarry operation code.word }
     ensures some { IfSome result (λ after.
         Executes code.word code.counter registers.old machine.old after registers.new machine.new) }
-    ensures keeps { NearKeeps machine.old machine.new }
+    ensures keeps { SameStopAndTrace machine.old machine.new }
     ensures none { result ≡ None → machine.new ≡ machine.old }
     ensures registers { result ≡ None → registers.new ≡ registers.old }
 {
@@ -460,7 +460,7 @@ fn product(machine: &mut Machine, source: Form, code: Code, registers: &mut [u16
     requires { IsProduct source code.word }
     ensures some { IfSome result (λ after.
         Executes code.word code.counter registers.old machine.old after registers.new machine.new) }
-    ensures keeps { NearKeeps machine.old machine.new }
+    ensures keeps { SameStopAndTrace machine.old machine.new }
     ensures none { result ≡ None → machine.new ≡ machine.old }
     ensures registers { result ≡ None → registers.new ≡ registers.old }
 {

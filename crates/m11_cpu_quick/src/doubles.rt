@@ -9,7 +9,7 @@ ghost use Rattle.m11_cpu_machine.specs.DoubleOperands.{double, double_at, exclus
 ghost use Rattle.m11_cpu_machine.specs.declared.addressing.OperandLocation.TheVariants.{InMemory, InRegister};
 ghost use Rattle.m11_cpu_quick.specs.Beside.{moved, shown};
 ghost use Rattle.m11_cpu_quick.specs.Forms.{IsForm};
-ghost use Rattle.m11_cpu_quick.specs.Near.{NearEnds, NearKeeps, double_onto, is_plain};
+ghost use Rattle.m11_cpu_quick.specs.Near.{NearEnds, SameStopAndTrace, double_onto, is_plain};
 ghost use Rattle.m11_cpu_quick.specs.declared.forms.Form.TheVariants as form;
 
 use crate::forms::Form;
@@ -35,7 +35,7 @@ pub(crate) fn double_to_register(
     requires destination { IsForm form.Register size destination }
     ensures some { IfSome result (λ after. NearEnds (double operation size source destination)
         (shown counter registers.old machine.old) (shown after registers.new machine.new)) }
-    ensures keeps { NearKeeps machine.old machine.new }
+    ensures keeps { SameStopAndTrace machine.old machine.new }
     ensures none { result ≡ None → machine.new ≡ machine.old }
     ensures registers { result ≡ None → registers.new ≡ registers.old }
 {
@@ -71,7 +71,7 @@ pub(crate) fn double_to_memory(
     requires destination { IsForm destination_form size destination }
     ensures some { IfSome result (λ after. NearEnds (double operation size source destination)
         (shown counter registers.old machine.old) (shown after registers.new machine.new)) }
-    ensures keeps { NearKeeps machine.old machine.new }
+    ensures keeps { SameStopAndTrace machine.old machine.new }
     ensures none { result ≡ None → machine.new ≡ machine.old }
     ensures registers { result ≡ None → registers.new ≡ registers.old }
 {
@@ -112,7 +112,7 @@ pub(crate) fn double_of_any(
 ) -> Option<u16>
     ensures some { IfSome result (λ after. NearEnds (double operation size source destination)
         (shown counter registers.old machine.old) (shown after registers.new machine.new)) }
-    ensures keeps { NearKeeps machine.old machine.new }
+    ensures keeps { SameStopAndTrace machine.old machine.new }
     ensures none { result ≡ None → machine.new ≡ machine.old }
     ensures registers { result ≡ None → registers.new ≡ registers.old }
 {
@@ -154,7 +154,7 @@ pub(crate) fn exclusive_or_of_any(
     requires form_is { IsForm form Word destination }
     ensures some { IfSome result (λ after. NearEnds (exclusive_or register destination)
         (shown counter registers.old machine.old) (shown after registers.new machine.new)) }
-    ensures keeps { NearKeeps machine.old machine.new }
+    ensures keeps { SameStopAndTrace machine.old machine.new }
     ensures none { result ≡ None → machine.new ≡ machine.old }
     ensures registers { result ≡ None → registers.new ≡ registers.old }
 {
@@ -202,7 +202,7 @@ fn double_onto(
     requires fits { source < size_limit size }
     ensures some { IfSome result (λ after. NearEnds (double_onto operation size source destination)
         (shown counter registers.old machine.old) (shown after registers.new machine.new)) }
-    ensures keeps { NearKeeps machine.old machine.new }
+    ensures keeps { SameStopAndTrace machine.old machine.new }
     ensures none { result ≡ None → machine.new ≡ machine.old }
     ensures registers { result ≡ None → registers.new ≡ registers.old }
 {
@@ -247,7 +247,7 @@ fn double_into_register(
     requires fits { source < size_limit size }
     ensures done { (counter : ℕ) → NearEnds (double_at operation size source (InRegister register))
         (shown counter registers.old machine.old) (shown counter registers.new machine.new) }
-    ensures keeps { NearKeeps machine.old machine.new }
+    ensures keeps { SameStopAndTrace machine.old machine.new }
 {
     let old = held(register, registers);
     let computed = m11_cpu_arithmetic::double(
@@ -283,7 +283,7 @@ fn double_into_memory(
     requires fits { source < size_limit size }
     ensures done { (counter : ℕ) (registers : List ℕ) → NearEnds (double_at operation size source (InMemory address))
         (shown counter registers machine.old) (shown counter registers machine.new) }
-    ensures keeps { NearKeeps machine.old machine.new }
+    ensures keeps { SameStopAndTrace machine.old machine.new }
 {
     let value = plain(machine, size, address);
     let computed = m11_cpu_arithmetic::double(operation, size, source, value, machine.codes());

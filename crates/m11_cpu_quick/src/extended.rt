@@ -7,7 +7,7 @@ ghost use Rattle.m11_base.specs.declared.operand.Size.TheVariants.{Word};
 ghost use Rattle.m11_cpu_machine.specs.Extended.{divided, extended, extended_by};
 ghost use Rattle.m11_cpu_quick.specs.Beside.{shown};
 ghost use Rattle.m11_cpu_quick.specs.Forms.{IsForm};
-ghost use Rattle.m11_cpu_quick.specs.Near.{NearEnds, NearKeeps};
+ghost use Rattle.m11_cpu_quick.specs.Near.{NearEnds, SameStopAndTrace};
 
 use crate::forms::Form;
 use crate::operands::{held, hold, value_of};
@@ -30,7 +30,7 @@ pub(crate) fn multiply(
     requires source { IsForm form Word source }
     ensures some { IfSome result (λ after. NearEnds (extended Mul register source)
         (shown counter registers.old machine.old) (shown after registers.new machine.new)) }
-    ensures keeps { NearKeeps machine.old machine.new }
+    ensures keeps { SameStopAndTrace machine.old machine.new }
     ensures none { result ≡ None → machine.new ≡ machine.old }
     ensures registers { result ≡ None → registers.new ≡ registers.old }
 {
@@ -57,7 +57,7 @@ pub(crate) fn extended_of_any(
     requires { register_number register < 6 }
     ensures some { IfSome result (λ after. NearEnds (extended operation register source)
         (shown counter registers.old machine.old) (shown after registers.new machine.new)) }
-    ensures keeps { NearKeeps machine.old machine.new }
+    ensures keeps { SameStopAndTrace machine.old machine.new }
     ensures none { result ≡ None → machine.new ≡ machine.old }
     ensures registers { result ≡ None → registers.new ≡ registers.old }
 {
@@ -79,7 +79,7 @@ fn extend(
     requires { register_number register < 6 }
     ensures done { (counter : ℕ) → extended_by operation register source (shown counter registers.old machine.old)
         ≡ shown counter registers.new machine.new }
-    ensures keeps { NearKeeps machine.old machine.new }
+    ensures keeps { SameStopAndTrace machine.old machine.new }
 {
     let odd = low_word_of(register);
     match operation {
@@ -110,7 +110,7 @@ fn divide_by(machine: &mut Machine, register: Register, divisor: u16, registers:
     requires { register_number register < 6 }
     ensures done { (counter : ℕ) → divided register divisor (shown counter registers.old machine.old)
         ≡ shown counter registers.new machine.new }
-    ensures keeps { NearKeeps machine.old machine.new }
+    ensures keeps { SameStopAndTrace machine.old machine.new }
 {
     let odd = low_word_of(register);
     match divide(held(register, registers), held(odd, registers), divisor) {

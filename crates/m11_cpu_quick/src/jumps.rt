@@ -10,7 +10,7 @@ ghost use Rattle.m11_cpu_machine.specs.Execution.{return_from_trap};
 ghost use Rattle.m11_cpu_machine.specs.Jumps.{branched, call, counted_down, jump, return_by};
 ghost use Rattle.m11_cpu_quick.specs.Beside.{shown};
 ghost use Rattle.m11_cpu_quick.specs.Forms.{IsForm};
-ghost use Rattle.m11_cpu_quick.specs.Near.{NearEnds, NearKeeps};
+ghost use Rattle.m11_cpu_quick.specs.Near.{NearEnds, SameStopAndTrace};
 
 use crate::forms::Form;
 use crate::near::{is_plain, plain, store_plain};
@@ -22,7 +22,7 @@ use m11_cpu_machine::{Machine, ProcessorStatus, words_on};
 /// Executes the branch with this word, and returns the program counter after it. A branch that is taken also stores its target in
 /// `registers`: without this store the compiler uses a conditional move, and each step waits for the condition codes.
 #[inline(always)]
-pub(crate) fn take_branch(
+pub(crate) fn execute_branch(
     machine: &Machine,
     operation: BranchOp,
     word: u16,
@@ -97,7 +97,7 @@ pub(crate) fn call(
     requires { IsForm form Word operand }
     ensures some { IfSome result (λ target. NearEnds (call Pc operand)
         (shown counter registers.old machine.old) (shown target registers.new machine.new)) }
-    ensures keeps { NearKeeps machine.old machine.new }
+    ensures keeps { SameStopAndTrace machine.old machine.new }
     ensures none { result ≡ None → machine.new ≡ machine.old }
     ensures registers { result ≡ None → registers.new ≡ registers.old }
 {
@@ -129,7 +129,7 @@ pub(crate) fn call_through(
     requires form_is { IsForm form Word operand }
     ensures some { IfSome result (λ target. NearEnds (call register operand)
         (shown counter registers.old machine.old) (shown target registers.new machine.new)) }
-    ensures keeps { NearKeeps machine.old machine.new }
+    ensures keeps { SameStopAndTrace machine.old machine.new }
     ensures none { result ≡ None → machine.new ≡ machine.old }
     ensures registers { result ≡ None → registers.new ≡ registers.old }
 {
@@ -201,7 +201,7 @@ pub(crate) fn return_from_trap(
 ) -> Option<u16>
     ensures some { IfSome result (λ target. NearEnds return_from_trap
         (shown counter registers.old machine.old) (shown target registers.new machine.new)) }
-    ensures keeps { NearKeeps machine.old machine.new }
+    ensures keeps { SameStopAndTrace machine.old machine.new }
     ensures none { result ≡ None → machine.new ≡ machine.old }
     ensures registers { result ≡ None → registers.new ≡ registers.old }
 {

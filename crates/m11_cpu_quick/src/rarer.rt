@@ -6,7 +6,7 @@ ghost use Rattle.std.specs.Prelude.{◌≡◌, IfSome, None};
 ghost use Rattle.m11_base.specs.Instructions.{meaning};
 ghost use Rattle.m11_base.specs.OperationTables.{operation_by_tables};
 ghost use Rattle.m11_base.specs.declared.instruction.Insn.TheVariants as instruction;
-ghost use Rattle.m11_cpu_quick.specs.Near.{NearKeeps};
+ghost use Rattle.m11_cpu_quick.specs.Near.{SameStopAndTrace};
 ghost use Rattle.m11_cpu_quick.specs.Quick.{Executes};
 
 use crate::arms::Code;
@@ -27,7 +27,7 @@ use m11_cpu_machine::Machine;
 pub(crate) fn rarer(machine: &mut Machine, code: Code, registers: &mut [u16; 8]) -> Option<u16>
     ensures some { IfSome result (λ after.
         Executes code.word code.counter registers.old machine.old after registers.new machine.new) }
-    ensures keeps { NearKeeps machine.old machine.new }
+    ensures keeps { SameStopAndTrace machine.old machine.new }
     ensures none { result ≡ None → machine.new ≡ machine.old }
     ensures registers { result ≡ None → registers.new ≡ registers.old }
 {
@@ -71,7 +71,7 @@ fn rarer_double(
     requires { meaning (operation_by_tables code.word) code.word ≡ instruction.Double operation size source destination }
     ensures some { IfSome result (λ after.
         Executes code.word code.counter registers.old machine.old after registers.new machine.new) }
-    ensures keeps { NearKeeps machine.old machine.new }
+    ensures keeps { SameStopAndTrace machine.old machine.new }
     ensures none { result ≡ None → machine.new ≡ machine.old }
     ensures registers { result ≡ None → registers.new ≡ registers.old }
 {
@@ -100,7 +100,7 @@ fn rarer_single(
     requires { meaning (operation_by_tables code.word) code.word ≡ instruction.Single operation size operand }
     ensures some { IfSome result (λ after.
         Executes code.word code.counter registers.old machine.old after registers.new machine.new) }
-    ensures keeps { NearKeeps machine.old machine.new }
+    ensures keeps { SameStopAndTrace machine.old machine.new }
     ensures none { result ≡ None → machine.new ≡ machine.old }
     ensures registers { result ≡ None → registers.new ≡ registers.old }
 {
@@ -122,7 +122,7 @@ fn rarer_extended(
     requires { meaning (operation_by_tables code.word) code.word ≡ instruction.Extended operation register source }
     ensures some { IfSome result (λ after.
         Executes code.word code.counter registers.old machine.old after registers.new machine.new) }
-    ensures keeps { NearKeeps machine.old machine.new }
+    ensures keeps { SameStopAndTrace machine.old machine.new }
     ensures none { result ≡ None → machine.new ≡ machine.old }
     ensures registers { result ≡ None → registers.new ≡ registers.old }
 {
@@ -153,7 +153,7 @@ fn on_register(
     requires { meaning (operation_by_tables code.word) code.word ≡ instruction.Register operation register operand }
     ensures some { IfSome result (λ after.
         Executes code.word code.counter registers.old machine.old after registers.new machine.new) }
-    ensures keeps { NearKeeps machine.old machine.new }
+    ensures keeps { SameStopAndTrace machine.old machine.new }
     ensures none { result ≡ None → machine.new ≡ machine.old }
     ensures registers { result ≡ None → registers.new ≡ registers.old }
 {
@@ -191,7 +191,7 @@ fn rarer_return(
     requires { meaning (operation_by_tables code.word) code.word ≡ instruction.Rts register }
     ensures some { IfSome result (λ after.
         Executes code.word code.counter registers.old machine.old after registers.new machine.new) }
-    ensures keeps { NearKeeps machine.old machine.new }
+    ensures keeps { SameStopAndTrace machine.old machine.new }
     ensures none { result ≡ None → machine.new ≡ machine.old }
     ensures registers { result ≡ None → registers.new ≡ registers.old }
 {
@@ -214,7 +214,7 @@ fn on_codes(
     requires { meaning (operation_by_tables code.word) code.word ≡ instruction.Condition operation named }
     ensures some { IfSome result (λ after.
         Executes code.word code.counter registers.old machine.old after registers.new machine.new) }
-    ensures keeps { NearKeeps machine.old machine.new }
+    ensures keeps { SameStopAndTrace machine.old machine.new }
     ensures none { result ≡ None → machine.new ≡ machine.old }
     ensures registers { result ≡ None → registers.new ≡ registers.old }
 {
@@ -233,7 +233,7 @@ fn rarer_bare(
     requires { meaning (operation_by_tables code.word) code.word ≡ instruction.Bare operation }
     ensures some { IfSome result (λ after.
         Executes code.word code.counter registers.old machine.old after registers.new machine.new) }
-    ensures keeps { NearKeeps machine.old machine.new }
+    ensures keeps { SameStopAndTrace machine.old machine.new }
     ensures none { result ≡ None → machine.new ≡ machine.old }
     ensures registers { result ≡ None → registers.new ≡ registers.old }
 {

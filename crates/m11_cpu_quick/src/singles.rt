@@ -10,7 +10,7 @@ ghost use Rattle.m11_cpu_machine.specs.SingleOperands.{change_single, single, te
 ghost use Rattle.m11_cpu_machine.specs.declared.addressing.OperandLocation.TheVariants.{InMemory};
 ghost use Rattle.m11_cpu_quick.specs.Beside.{shown};
 ghost use Rattle.m11_cpu_quick.specs.Forms.{IsForm};
-ghost use Rattle.m11_cpu_quick.specs.Near.{NearEnds, NearKeeps, Yields, is_plain};
+ghost use Rattle.m11_cpu_quick.specs.Near.{NearEnds, SameStopAndTrace, Yields, is_plain};
 ghost use Rattle.m11_cpu_quick.specs.declared.forms.Form.TheVariants as form;
 
 use crate::forms::Form;
@@ -36,7 +36,7 @@ pub(crate) fn single(
     requires { IsForm form size operand }
     ensures some { IfSome result (λ after. NearEnds (single operation size operand)
         (shown counter registers.old machine.old) (shown after registers.new machine.new)) }
-    ensures keeps { NearKeeps machine.old machine.new }
+    ensures keeps { SameStopAndTrace machine.old machine.new }
     ensures none { result ≡ None → machine.new ≡ machine.old }
     ensures registers { result ≡ None → registers.new ≡ registers.old }
 {
@@ -71,7 +71,7 @@ fn write(
     requires { IsForm form size operand }
     ensures some { IfSome result (λ after. NearEnds (write operation size operand)
         (shown counter registers.old machine.old) (shown after registers.new machine.new)) }
-    ensures keeps { NearKeeps machine.old machine.new }
+    ensures keeps { SameStopAndTrace machine.old machine.new }
     ensures none { result ≡ None → machine.new ≡ machine.old }
     ensures registers { result ≡ None → registers.new ≡ registers.old }
 {
@@ -110,7 +110,7 @@ fn test(
     requires { IsForm form size operand }
     ensures some { IfSome result (λ after. NearEnds (test_operand operation size operand)
         (shown counter registers.old machine.old) (shown after registers.new machine.new)) }
-    ensures keeps { NearKeeps machine.old machine.new }
+    ensures keeps { SameStopAndTrace machine.old machine.new }
     ensures none { result ≡ None → machine.new ≡ machine.old }
     ensures registers { result ≡ None → registers.new ≡ registers.old }
 {
@@ -134,7 +134,7 @@ fn change(
     requires { IsForm form size operand }
     ensures some { IfSome result (λ after. NearEnds (change_single operation size operand)
         (shown counter registers.old machine.old) (shown after registers.new machine.new)) }
-    ensures keeps { NearKeeps machine.old machine.new }
+    ensures keeps { SameStopAndTrace machine.old machine.new }
     ensures none { result ≡ None → machine.new ≡ machine.old }
     ensures registers { result ≡ None → registers.new ≡ registers.old }
 {
@@ -181,7 +181,7 @@ pub(crate) fn single_of_any(
 ) -> Option<u16>
     ensures some { IfSome result (λ after. NearEnds (single operation size operand)
         (shown counter registers.old machine.old) (shown after registers.new machine.new)) }
-    ensures keeps { NearKeeps machine.old machine.new }
+    ensures keeps { SameStopAndTrace machine.old machine.new }
     ensures none { result ≡ None → machine.new ≡ machine.old }
     ensures registers { result ≡ None → registers.new ≡ registers.old }
 {
@@ -214,7 +214,7 @@ fn single_by_use(
     requires form_is { IsForm form size operand }
     ensures some { IfSome result (λ after. NearEnds (single operation size operand)
         (shown counter registers.old machine.old) (shown after registers.new machine.new)) }
-    ensures keeps { NearKeeps machine.old machine.new }
+    ensures keeps { SameStopAndTrace machine.old machine.new }
     ensures none { result ≡ None → machine.new ≡ machine.old }
     ensures registers { result ≡ None → registers.new ≡ registers.old }
 {
@@ -248,7 +248,7 @@ fn poll(
     requires { IsForm form size operand }
     ensures some { IfSome result (λ after. NearEnds (single operation size operand)
         (shown counter registers.now machine.old) (shown after registers.now machine.new)) }
-    ensures keeps { NearKeeps machine.old machine.new }
+    ensures keeps { SameStopAndTrace machine.old machine.new }
     ensures none { result ≡ None → machine.new ≡ machine.old }
 {
     match form {
@@ -277,7 +277,7 @@ fn test_status(
     requires { IsForm form.Absolute size operand }
     ensures some { IfSome result (λ after. NearEnds (single one.Tst size operand)
         (shown counter registers.now machine.old) (shown after registers.now machine.new)) }
-    ensures keeps { NearKeeps machine.old machine.new }
+    ensures keeps { SameStopAndTrace machine.old machine.new }
     ensures none { result ≡ None → machine.new ≡ machine.old }
 {
     let address = following(machine, Size::Word, counter)?;
@@ -301,7 +301,7 @@ fn single_in_register(
     requires form_is { IsForm form.Register size operand }
     ensures done { (counter : ℕ) → NearEnds (single operation size operand)
         (shown counter registers.old machine.old) (shown counter registers.new machine.new) }
-    ensures keeps { NearKeeps machine.old machine.new }
+    ensures keeps { SameStopAndTrace machine.old machine.new }
 {
     let old = held(operand.register, registers);
     let computed = m11_cpu_arithmetic::single(operation, size, low(size, old), machine.codes());
@@ -340,7 +340,7 @@ fn single_in_memory(
     ensures done { (operand : Operand) (before after : ℕ) (registers stepped : List ℕ)
         → Yields (location_of operand size) (shown before registers machine.old) (InMemory address) (shown after stepped machine.old)
         → NearEnds (single operation size operand) (shown before registers machine.old) (shown after stepped machine.new) }
-    ensures keeps { NearKeeps machine.old machine.new }
+    ensures keeps { SameStopAndTrace machine.old machine.new }
 {
     let value = plain(machine, size, address);
     let computed = m11_cpu_arithmetic::single(operation, size, value, machine.codes());

@@ -14,7 +14,7 @@ use Rattle.m11_dump.specs.Entries.{entry_line}
 use Rattle.m11_dump.specs.Libraries.{AcceptsPart, DumpsLibrary, Finds, GivesBlocks, InOrder, LacksBlock, ListsBlocks, RefusesPart, again, block_lines, library_text, lines_as}
 use Rattle.m11_dump.specs.LibraryParts.{IsSound, IsSoundAs, begins_as, is_read, part_of, stage_then}
 use Rattle.m11_dump.specs.Objects.{AreInFront, FailsAt, FailsToPut, Gained}
-use Rattle.m11_dump.specs.Positions.{StopsAt, count_read, given_of, placed_at, stop_byte}
+use Rattle.m11_dump.specs.Positions.{StopsAt, count_read, bytes_before_stop, placed_at, stop_byte}
 use Rattle.m11_dump.proofs.Gaining.{gained_nothing, gained_then}
 use Rattle.m11_dump.proofs.Offsets.{given_room}
 use Rattle.m11_dump.proofs.Reading.{front_more, room_falls}
@@ -104,7 +104,7 @@ module _ (start here new : Position) (front given : List ℕ) (before : ℕ) (wh
       → count ≡ before + count_read new → byte ≡ stop_byte why count → StopsAt read why here new (front ++ given) byte
   stops_after read why count byte stops e is = (
     stops,
-    is ∙ ap (stop_byte why) (count_is count (given_of read here new why stops) (given_room read here new why stops) e),
+    is ∙ ap (stop_byte why) (count_is count (bytes_before_stop read here new why stops) (given_room read here new why stops) e),
   )
 
 -- ---- how far a dump has come

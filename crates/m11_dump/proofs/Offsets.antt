@@ -4,12 +4,12 @@ use Rattle.m11_obj_blocks.specs.Limited.{EndsBetween, EndsInside, Fails, Never, 
 use Rattle.m11_obj.specs.Reading.{content_of, first_type, first_word}
 use Rattle.m11_obj.specs.declared.fault.RecordFault.{RecordFault}
 use Rattle.m11_obj.specs.declared.fault.RecordFault.TheVariants.{BadLength}
-use Rattle.m11_dump.specs.Positions.{StopsAt, count_read, given_of, stop_byte}
+use Rattle.m11_dump.specs.Positions.{StopsAt, count_read, bytes_before_stop, stop_byte}
 
 -- ---- bytes that were read
 
 pub given_room : {Fault A : Type 0} (read : List ℕ → Read Fault A) (old new : Position) (why : Why Fault) (stops : Stops read old new why)
-    → old.room ≡ length (given_of read old new why stops) + new.room
+    → old.room ≡ length (bytes_before_stop read old new why stops) + new.room
 given_room read old new Fails stops = omega (arith, stops.1.1.room, stops.1.2.2)
 given_room read old new EndsBetween stops = omega (arith, stops.1.1.room, stops.1.2.2)
 given_room read old new EndsInside stops = omega (arith, stops.1.1.room, stops.1.2.2)
@@ -27,7 +27,7 @@ pub stops_at : {Fault A : Type 0} (read : List ℕ → Read Fault A) (why : Why 
     → StopsAt read why here new before byte
 stops_at read why old here new before byte whole took stops e = (
   stops,
-  e ∙ ap (stop_byte why) (read_is old here new before (given_of read here new why stops) whole took
+  e ∙ ap (stop_byte why) (read_is old here new before (bytes_before_stop read here new why stops) whole took
       (given_room read here new why stops)),
 )
 

@@ -10,7 +10,7 @@ use Rattle.m11_obj_blocks.specs.declared.block_fault.BlockFault.{BlockFault}
 use Rattle.m11_obj_blocks.specs.declared.block_fault.BlockFault.TheVariants as block_fault
 use Rattle.m11_link_modules.specs.declared.fault.ModuleFault.TheVariants as rule
 use Rattle.m11_dump.specs.LibraryParts.{part_of}
-use Rattle.m11_dump.specs.Positions.{StopsAt, given_of}
+use Rattle.m11_dump.specs.Positions.{StopsAt, bytes_before_stop}
 use Rattle.m11_dump.specs.declared.fault.DumpFault.{DumpFault}
 use Rattle.m11_dump.specs.declared.fault.DumpFault.TheVariants as fault
 use Rattle.m11_dump.specs.declared.fault.LocatedFault.{LocatedFault}
@@ -60,7 +60,7 @@ nothing bytes = Err Between
 
 -- the bytes ended or couldn't be read further, the byte at this offset shows why, and no listed block lies in the bytes read
 abbrev pub Unfound : Why BlockFault → Position → Position → ℕ → Type 0
-Unfound why old new byte = (stops : StopsAt nothing why old new [] byte) × NoneIn (given_of nothing old new why stops.0)
+Unfound why old new byte = (stops : StopsAt nothing why old new [] byte) × NoneIn (bytes_before_stop nothing old new why stops.0)
 
 abbrev pub UnfoundBy : DumpFault → Position → Position → ℕ → Type 0
 UnfoundBy (fault.Block inner) old new byte = Unfound (why_of inner) old new byte

@@ -4,7 +4,7 @@ use Rattle.std.specs.Prelude.{◌≡◌, ◌⊎◌, ℕ, ◌+◌, ◌≤◌, ◌
 use Rattle.std.specs.List.{AllByRecursion, concat}
 use Rattle.std.specs.Io.KnownBytes.{Appends}
 use Rattle.m11_base.specs.Devices.{Bytes, Rises}
-use Rattle.m11_base.specs.Sink.{AppendsBeginning}
+use Rattle.m11_base.specs.Sink.{AppendsPrefix}
 use Rattle.m11_obj_blocks.specs.Blocks.{first_block, why_of}
 use Rattle.m11_obj_blocks.specs.Frames.{content_limit}
 use Rattle.m11_obj_blocks.specs.Limited.{EndsBetween, Position, Reads, Stops, Took}
@@ -67,7 +67,7 @@ pub record GivesRecords (old here : Position) (contents : List Bytes) : Type 0 w
 
 -- the output failed after a prefix of the text was written, perhaps none or all of it
 abbrev pub FailsAt : Bytes → OutputState → OutputState → Type 0
-FailsAt text output output' = AppendsBeginning output.text output'.text text × Rises output.faults output'.faults
+FailsAt text output output' = AppendsPrefix output.text output'.text text × Rises output.faults output'.faults
 
 -- the whole text was written, and the output didn't fail
 abbrev pub Gained : Bytes → OutputState → OutputState → Type 0

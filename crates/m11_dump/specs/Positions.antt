@@ -16,14 +16,14 @@ use Rattle.m11_dump.specs.declared.fault.LocatedFault.{LocatedFault}
 -- ---- a fault in the blocks of an object, library or tape
 
 -- the bytes read before a call stopped
-abbrev pub given_of : {Fault A : Type 0} (read : Bytes → Read Fault A) (old new : Position) (why : Why Fault) → Stops read old new why
+abbrev pub bytes_before_stop : {Fault A : Type 0} (read : Bytes → Read Fault A) (old new : Position) (why : Why Fault) → Stops read old new why
     → Bytes
-given_of read old new Fails stops = stops.0
-given_of read old new EndsBetween stops = stops.0
-given_of read old new EndsInside stops = stops.0
-given_of read old new Passes stops = stops.0
-given_of read old new (Refuses fault) stops = stops.0
-given_of read old new Never stops = absurd stops
+bytes_before_stop read old new Fails stops = stops.0
+bytes_before_stop read old new EndsBetween stops = stops.0
+bytes_before_stop read old new EndsInside stops = stops.0
+bytes_before_stop read old new Passes stops = stops.0
+bytes_before_stop read old new (Refuses fault) stops = stops.0
+bytes_before_stop read old new Never stops = absurd stops
 
 -- the offset of the byte that shows why a call stopped, after `count` bytes of the file: that of the last byte if it is refused;
 -- otherwise that of the byte that is missing or not read, which is the size of the file if the file ends there
@@ -34,7 +34,7 @@ stop_byte why count = count
 -- a call that began after the bytes `before` of the file stopped for this reason, and the byte at the offset `byte` shows the reason
 abbrev pub StopsAt : {Fault A : Type 0} → (Bytes → Read Fault A) → Why Fault → Position → Position → Bytes → ℕ → Type 0
 StopsAt read why here new before byte = (stops : Stops read here new why)
-    × (byte ≡ stop_byte why (length (before ++ given_of read here new why stops)))
+    × (byte ≡ stop_byte why (length (before ++ bytes_before_stop read here new why stops)))
 
 -- ---- a fault in a record
 

@@ -16,7 +16,7 @@ ghost use Rattle.m11_dump.specs.Octets.{location_after, octal3, octet, octets, o
 /// A block's content begins at the offset that a dump reports for its first byte. The content ends just before the sum byte, which is
 /// the last byte read.
 #[tactic(auto, using(crate::proofs::ContentPositions::stands))]
-pub fn contents_stand_where_they_are_told()
+pub fn contents_begin_at_their_reported_offsets()
     ensures { (before given content : Bytes) → AllByRecursion (λ byte. byte < 256) given
         → first_block given ≡ Ok (content, [])
         → LiesAt content (before ++ given) (content_start content (length (before ++ given))) }

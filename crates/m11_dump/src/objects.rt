@@ -12,7 +12,7 @@ use crate::fault::{DumpFault, LocatedFault};
 use crate::held::{HeldText, show_held};
 use crate::positions::{fault_byte, placed, record_byte, rule_byte};
 use crate::stand::{Stand, address_after};
-use crate::taking::take_record;
+use crate::taking::dump_record;
 use crate::view::View;
 use m11_base::{Feed, Seed, Sink};
 use m11_link_modules::Rules;
@@ -111,7 +111,7 @@ fn accept_record<S: Sink>(
 {
     let blocks = stand.blocks;
     let address = address_after(stand.address, record);
-    match take_record(alloc, view, stand.address, stand.held, record, sink) {
+    match dump_record(alloc, view, stand.address, stand.held, record, sink) {
         Ok(held) => match judge_record(rules, record, blocks, read) {
             Ok(()) => Ok(Stand {
                 address,

@@ -17,7 +17,7 @@ use m11_obj::{Record, RecordKind};
 use std::alloc::Global;
 
 // Accepts a text: shows the pending text, if there is one, and returns this one as pending.
-fn take_text<S: Sink>(
+fn dump_text<S: Sink>(
     alloc: Global,
     view: View,
     address: u16,
@@ -44,7 +44,7 @@ fn take_text<S: Sink>(
 
 // Accepts a record that is neither a text nor the relocations of the pending text: shows the pending text, if there is one, then this
 // record. No text is pending afterwards.
-fn take_other<S: Sink>(
+fn dump_other<S: Sink>(
     alloc: Global,
     view: View,
     address: u16,
@@ -87,12 +87,12 @@ fn take_places<S: Sink>(
             places: Some(places),
         }))
     } else {
-        take_other(alloc, view, address, &Some(text), record, sink)
+        dump_other(alloc, view, address, &Some(text), record, sink)
     }
 }
 
 // Accepts a relocation record, with or without a pending text.
-fn take_relocations<S: Sink>(
+fn dump_relocations<S: Sink>(
     alloc: Global,
     view: View,
     address: u16,
@@ -107,13 +107,13 @@ fn take_relocations<S: Sink>(
 {
     match held {
         Some(text) => take_places(alloc, view, address, text, record, sink),
-        None => take_other(alloc, view, address, &None, record, sink),
+        None => dump_other(alloc, view, address, &None, record, sink),
     }
 }
 
 /// Accepts a record. The last text before it lies at this address, and is `held` if it isn't shown yet. Returns the text that is
 /// pending afterwards, if there is one. Errors: `Write`, if the sink failed; `NoMemory`, if memory was refused.
-pub(crate) fn take_record<S: Sink>(
+pub(crate) fn dump_record<S: Sink>(
     alloc: Global,
     view: View,
     address: u16,
@@ -126,8 +126,8 @@ pub(crate) fn take_record<S: Sink>(
     ensures { spec.Takes view address held «record».now (output_of S.Sink sink.old) (output_of S.Sink sink.new) result }
 {
     match record.kind() {
-        RecordKind::Text => take_text(alloc, view, address, held, record, sink),
-        RecordKind::Relocations => take_relocations(alloc, view, address, held, record, sink),
-        _ => take_other(alloc, view, address, &held, record, sink),
+        RecordKind::Text => dump_text(alloc, view, address, held, record, sink),
+        RecordKind::Relocations => dump_relocations(alloc, view, address, held, record, sink),
+        _ => dump_other(alloc, view, address, &held, record, sink),
     }
 }

@@ -51,11 +51,11 @@ values argument rows = unwrap_or (all_of argument rows) []
 
 -- the parsed options and files ask for this request: what to show, the bottom, the files of names, and the files to show; or the bottom has
 -- this fault, or memory was refused
-abbrev pub EntriesGive : List Row → Result Request UsageFault → Type 0
-EntriesGive rows (Ok request) = (request.show ≡ show_of rows) × (bottom_by rows ≡ Ok request.bottom)
+abbrev pub EntriesHaveResult : List Row → Result Request UsageFault → Type 0
+EntriesHaveResult rows (Ok request) = (request.show ≡ show_of rows) × (bottom_by rows ≡ Ok request.bottom)
     × (texts request.names.items ≡ values (codes "symbols") rows) × (texts request.paths.items ≡ values (codes "files") rows)
-EntriesGive rows (Err fault) = (fault ≡ NoMemory) ⊎ (bottom_by rows ≡ Err fault)
+EntriesHaveResult rows (Err fault) = (fault ≡ NoMemory) ⊎ (bottom_by rows ≡ Err fault)
 
 -- the result of a command line: what it asks for, or its fault; memory may be refused for any command line
 abbrev pub Plans : List Text → Result Request UsageFault → Type 0
-Plans words result = tasks.Plans application EntriesGive words result
+Plans words result = tasks.Plans application EntriesHaveResult words result

@@ -3,7 +3,7 @@ use Rattle.std.specs.Prelude.{◌≡◌, ◌⊎◌, ℕ, List, [], ◌∷◌, Op
 use Rattle.std.specs.Io.KnownBytes.{Appends}
 use Rattle.m11_base.specs.Devices.{Bytes, Rises}
 use Rattle.m11_base.specs.Feed.{Text}
-use Rattle.m11_base.specs.Sink.{AppendsBeginning}
+use Rattle.m11_base.specs.Sink.{AppendsPrefix}
 use Rattle.m11_obj_blocks.specs.Limited.{Position, most_bytes, position}
 use Rattle.m11_base_disassembly.specs.declared.symbols.Symbol.{Symbol}
 use Rattle.m11_dump.specs.Kind.{IsKind}
@@ -26,7 +26,7 @@ abbrev pub Gains : Bytes → OutputState → OutputState → Type 0
 Gains text out out' = Appends out.text out'.text text × (out'.faults ≡ out.faults)
 
 abbrev pub Fails : Bytes → OutputState → OutputState → Type 0
-Fails text out out' = AppendsBeginning out.text out'.text text × Rises out.faults out'.faults
+Fails text out out' = AppendsPrefix out.text out'.text text × Rises out.faults out'.faults
 
 -- a dump of a file as one of this kind, with these globals as names of a tape's addresses, has this result
 abbrev pub DumpsKind : View → List Symbol → Kind → Position → Position → OutputState → OutputState → Result (Unit {0}) LocatedFault → Type 0
@@ -40,14 +40,14 @@ DumpsInput view symbols kind text faults path out out' result = (middle : Output
     × DumpsKind view symbols kind (position text faults most_bytes) new middle out' result
 
 -- the kind of a file: as an option states for all files, otherwise as the beginning of the file indicates
-abbrev pub IsGiven : Option Kind → Position → Position → Kind → Type 0
-IsGiven (Some said) old new kind = kind ≡ said
-IsGiven None old new kind = IsKind old new kind
+abbrev pub IsChosenKind : Option Kind → Position → Position → Kind → Type 0
+IsChosenKind (Some said) old new kind = kind ≡ said
+IsChosenKind None old new kind = IsKind old new kind
 
 -- the file at this path is of this kind
 abbrev pub IsOfKind : Option Kind → Option Files → Bytes → Kind → Type 0
 IsOfKind said files path kind = (text : Option Text) × (faults : ℕ) × (new : Position) × Holds files path text
-    × IsGiven said (position text faults most_bytes) new kind
+    × IsChosenKind said (position text faults most_bytes) new kind
 
 -- the file at this path, which is of this kind, was dumped, with this result
 abbrev pub Dumps : Look → List Symbol → Kind → Option Files → Bytes → OutputState → OutputState → Result (Unit {0}) LocatedFault → Type 0

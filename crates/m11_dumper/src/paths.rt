@@ -2,11 +2,11 @@
 
 ghost use Rattle.std.specs.Prelude.{◌≡◌, codes, map};
 ghost use Rattle.clap.specs.Words.{first_of, found_of, rows_of};
-ghost use Rattle.m11_dumper.specs.Paths.{EntriesGive, Plans, is_set, kind_by, look_of, show_of, view_by};
+ghost use Rattle.m11_dumper.specs.Paths.{EntriesHaveResult, Plans, is_set, kind_by, look_of, show_of, view_by};
 
 use crate::application::application_command;
 use clap::ArgMatches;
-use m11_cli_tasks::{UsageFault, all_texts, bottom_given};
+use m11_cli_tasks::{UsageFault, all_texts, bottom_option};
 use m11_dump::{Kind, View};
 use std::alloc::Global;
 use std::convert::AsStr;
@@ -51,20 +51,20 @@ pub(crate) fn plan<'a, S: AsStr>(alloc: Global, words: &'a [S]) -> Result<Reques
 {
     let command = application_command(alloc)?;
     let matches = command.try_get_matches_from(words)?;
-    let request = request_given(alloc, &matches);
+    let request = parsed_request(alloc, &matches);
     drop(matches);
     request
 }
 
 // What the parsed options and files ask for. Errors: the fault of the bottom, or `NoMemory`.
-fn request_given<'a>(alloc: Global, matches: &ArgMatches<'a>) -> Result<Request<'a>, UsageFault>
-    ensures { EntriesGive (rows_of (found_of matches.now)) result }
+fn parsed_request<'a>(alloc: Global, matches: &ArgMatches<'a>) -> Result<Request<'a>, UsageFault>
+    ensures { EntriesHaveResult (rows_of (found_of matches.now)) result }
 {
-    let bottom = bottom_given(matches)?;
+    let bottom = bottom_option(matches)?;
     let names = all_texts(alloc, matches, "symbols")?;
     let paths = all_texts(alloc, matches, "files")?;
     Ok(Request {
-        show: show_given(matches),
+        show: show_option(matches),
         bottom,
         names,
         paths,
@@ -72,34 +72,34 @@ fn request_given<'a>(alloc: Global, matches: &ArgMatches<'a>) -> Result<Request<
 }
 
 // What to show: the load map if `-m` is given, even with `-d`, `-o` or `-t`; otherwise the contents of each file.
-fn show_given(matches: &ArgMatches<'_>) -> Show
+fn show_option(matches: &ArgMatches<'_>) -> Show
     ensures { result ≡ show_of (rows_of (found_of matches.now)) }
 {
-    if is_given(matches, "map") {
+    if is_present(matches, "map") {
         Show::Map
     } else {
-        Show::Contents(look_given(matches))
+        Show::Contents(look_options(matches))
     }
 }
 
 // How to show the contents of files, as `-d`, `-o` and `-t` state.
-fn look_given(matches: &ArgMatches<'_>) -> Look
+fn look_options(matches: &ArgMatches<'_>) -> Look
     ensures { result ≡ look_of (rows_of (found_of matches.now)) }
 {
     Look {
-        view: view_given(matches),
-        kind: kind_given(matches),
+        view: view_option(matches),
+        kind: chosen_kind(matches),
     }
 }
 
 // The kind that all files are read as, if an option states one: objects if `-o` is given, even with `-t`.
-fn kind_given(matches: &ArgMatches<'_>) -> Option<Kind>
+fn chosen_kind(matches: &ArgMatches<'_>) -> Option<Kind>
     ensures { result ≡ kind_by (first_of (codes "object") (rows_of (found_of matches.now)))
         (first_of (codes "tape") (rows_of (found_of matches.now))) }
 {
-    if is_given(matches, "object") {
+    if is_present(matches, "object") {
         Some(Kind::Object)
-    } else if is_given(matches, "tape") {
+    } else if is_present(matches, "tape") {
         Some(Kind::Tape)
     } else {
         None
@@ -107,10 +107,10 @@ fn kind_given(matches: &ArgMatches<'_>) -> Option<Kind>
 }
 
 // How to show the bytes of texts and of a tape's blocks: as instructions if `-d` is given, otherwise in octal.
-fn view_given(matches: &ArgMatches<'_>) -> View
+fn view_option(matches: &ArgMatches<'_>) -> View
     ensures { result ≡ view_by (first_of (codes "disassemble") (rows_of (found_of matches.now))) }
 {
-    if is_given(matches, "disassemble") {
+    if is_present(matches, "disassemble") {
         View::Instructions
     } else {
         View::Octal
@@ -118,8 +118,8 @@ fn view_given(matches: &ArgMatches<'_>) -> View
 }
 
 // Whether an option that takes no value is given.
-#[tactic(auto, using(m11_cli_tasks::proofs::Entries::first_given))]
-fn is_given(matches: &ArgMatches<'_>, id: &str) -> bool
+#[tactic(auto, using(m11_cli_tasks::proofs::Entries::first_entry_value))]
+fn is_present(matches: &ArgMatches<'_>, id: &str) -> bool
     ensures { result ≡ is_set (first_of id.now (rows_of (found_of matches.now))) }
 {
     match matches.get_str(id) {

@@ -2,7 +2,7 @@
 
 ghost use Rattle.std.specs.Prelude.{◌≡◌, ℕ};
 ghost use Rattle.m11_obj_blocks.specs.Limited.{most_bytes, position};
-ghost use Rattle.m11_dumper.specs.Showing.{Counts, DumpsKind, IsGiven, ShowsAll, ShowsFile, ShowsInput};
+ghost use Rattle.m11_dumper.specs.Showing.{Counts, DumpsKind, IsChosenKind, ShowsAll, ShowsFile, ShowsInput};
 ghost use Rattle.m11_cli_tasks.specs.Opened.{texts};
 ghost use Rattle.m11_base_writes.specs.States.{output_of};
 
@@ -58,7 +58,7 @@ fn show_file<'a, F: Opens, O: Sink>(
 {
     match files.open_twice(path) {
         Ok((mut first, mut second)) => {
-            let kind = kind_given(look.kind, &mut first);
+            let kind = chosen_kind(look.kind, &mut first);
             let seed = files.seed();
             show_input(
                 alloc,
@@ -77,8 +77,8 @@ fn show_file<'a, F: Opens, O: Sink>(
 }
 
 // The kind of a file: `said`; or, if that is None, the kind that the beginning of the file indicates. Only then is the file read.
-fn kind_given<I: Feed>(said: Option<Kind>, input: &mut I) -> Kind
-    ensures { (room : ℕ) × IsGiven said (position (I.text input.old) (I.faults input.old) most_bytes)
+fn chosen_kind<I: Feed>(said: Option<Kind>, input: &mut I) -> Kind
+    ensures { (room : ℕ) × IsChosenKind said (position (I.text input.old) (I.faults input.old) most_bytes)
         (position (I.text input.new) (I.faults input.new) room) result }
 {
     match said {

@@ -12,19 +12,19 @@ use Rattle.m11_link_modules.specs.Laws.{AcceptsAfter}
 use Rattle.m11_link_modules.specs.declared.stage.Stage.{Stage}
 use Rattle.m11_link_modules.specs.declared.stage.Stage.TheVariants.{Between, InDirectory, InBody}
 use Rattle.m11_link_modules.specs.Parts.{Part, Directory, Entry, EndOfDirectory, Text, Relocations, Relocated, EndOfModule, EndOfFile, parts_in, parts_of, record_parts}
-use Rattle.m11_link_modules.specs.Steps.{RulesTake, known_after, with_optional_global}
+use Rattle.m11_link_modules.specs.Steps.{RulesAccept, known_after, with_optional_global}
 use Rattle.m11_link_modules.proofs.Taking.{none_taken}
-use Rattle.m11_link_modules.proofs.KnownAfter.{known_after_part, taken_after}
+use Rattle.m11_link_modules.proofs.KnownAfter.{known_after_part, accepted_after}
 use Rattle.m11_link_layout.specs.Globals.{definitions_of}
 use Rattle.m11_link_modules.specs.Positions.{RulesState, current_section, distinct, global_of, known_of, modules_in, this_module}
-use Rattle.m11_link_modules.specs.Rules.{fault_known, fault_of, first_fault, may_stand}
+use Rattle.m11_link_modules.specs.Rules.{fault_known, fault_of, first_fault, may_occur}
 use Rattle.m11_link_modules.specs.declared.fault.ModuleFault.{ModuleFault}
 use Rattle.m11_link_modules.specs.declared.fault.ModuleFault.TheVariants as rule
 use Rattle.m11_link_layout.proofs.Standing.{sound_after}
 use Rattle.m11_link_layout.proofs.Walking.{head_none, walked}
 use Rattle.m11_link_layout.specs.Fault.{of_module}
 use Rattle.m11_link_layout.specs.Plan.{PlanTables}
-use Rattle.m11_link_layout.specs.Tables.{LayoutTables, nothing_gathered}
+use Rattle.m11_link_layout.specs.Tables.{LayoutTables, nothing_collected}
 use Rattle.m11_link_layout.specs.declared.fault.LinkFault.{LinkFault}
 use Rattle.m11_link_layout.specs.declared.fault.LinkFault.TheVariants as fault
 use Rattle.m11_link.specs.Emit.{EmitAfter, EmitState, Goes, GoesOn, ReporterState, AcceptsBlock, AcceptsParts, begin_writes, begun_reporting, call_of, directory_writes, entries_writes, held_at, held_text, held_with, held_with_all, held_writes, relocated_parts, with_count, with_directory, with_held, with_reporting, with_text, written}
@@ -380,7 +380,7 @@ some_fault broken e = cc
 
 -- a text between modules has a fault
 text_in_body : (address : ℕ) (bytes : List ℕ) (stage : Stage) (later : Option ModuleFault)
-    → (if may_stand (Text address bytes) stage then later else Some rule.BadOrder) ≡ None → stage ≡ Between → ⊥
+    → (if may_occur (Text address bytes) stage then later else Some rule.BadOrder) ≡ None → stage ≡ Between → ⊥
 text_in_body address bytes Between later e b = some_fault rule.BadOrder e
 text_in_body address bytes InDirectory later e b = some_fault rule.BadOrder e
 text_in_body address bytes InBody later e b = cc
@@ -415,7 +415,7 @@ held_on found before g part n h b =
     held_more found before (part ∷ []) ∙ held_step found before part n h (subst P (known_after_part before part n) b)
 
 ends_between : (stage : Stage) (later : Option ModuleFault)
-    → (if may_stand EndOfFile stage then later else Some rule.BadOrder) ≡ None → stage ≡ Between
+    → (if may_occur EndOfFile stage then later else Some rule.BadOrder) ≡ None → stage ≡ Between
 ends_between Between later e = refl
 ends_between InDirectory later e = absurd (some_fault rule.BadOrder e)
 ends_between InBody later e = absurd (some_fault rule.BadOrder e)
@@ -428,7 +428,7 @@ none_held : (found : Findings) (before : List Part) → first_fault [] before �
     → held_text found before ≡ None
 unfolding fault_known
 none_held found before n e =
-    walked 0 (λ these g. NoneHeld found these) (held_on found) [] before nothing_gathered n (λ b. held_first found)
+    walked 0 (λ these g. NoneHeld found these) (held_on found) [] before nothing_collected n (λ b. held_first found)
     (ends_between (known_of before).stage _ e)
 
 -- if no text is pending, ending the pending text adds no write
@@ -481,23 +481,23 @@ module _ {seen : EmitState} (plan : PlanTables) (before : List Part) (s : EmitSt
 module _ {seen : EmitState} (plan : PlanTables) (before : List Part) (s : EmitState) (c : records.Content) (is : seen ≡ s)
     (stands : EmitAfter plan before s) where
   pub content_refused : (a : Outputs) (s' : EmitState) (new : RulesState) (broken : ModuleFault) (result : Result (Unit {0}) LinkFault)
-      → RulesTake seen.known new (parts_of c) (Err broken) → IsErrAnd result (λ f. f ≡ of_module broken)
+      → RulesAccept seen.known new (parts_of c) (Err broken) → IsErrAnd result (λ f. f ≡ of_module broken)
       → AcceptsParts plan before (call_of a a s s') (parts_of c) result
   content_refused a s' new broken result h f =
       let P : EmitState → Type 0 = λ x. AcceptsParts plan before (call_of a a x s') (parts_of c) result in
       let now = here plan before s is stands in
       subst P is (parts_refused plan before (parts_of c) (made_by before c) (following before c) (content_makes plan before c)
-      seen now a s' new broken result (taken_after before seen.known new (parts_of c) (Err broken) now.known h) f)
+      seen now a s' new broken result (accepted_after before seen.known new (parts_of c) (Err broken) now.known h) f)
 
   pub content_taken : (a b : Outputs) (s' : EmitState) (known : RulesState) (result : Result (Unit {0}) LinkFault)
-      → RulesTake seen.known known (parts_of c) (Ok tt)
+      → RulesAccept seen.known known (parts_of c) (Ok tt)
       → Goes a b (begin_writes seen ++ made_by before c (begun_reporting seen)) s'
       (let now : EmitState = record seen { known = known } in with_reporting (following before c (begun_reporting seen)) now) result
       → AcceptsParts plan before (call_of a b s s') (parts_of c) result
   content_taken a b s' known result h k =
       let P : EmitState → Type 0 = λ x. AcceptsParts plan before (call_of a b x s') (parts_of c) result in
       let now = here plan before s is stands in
-      let t = taken_after before seen.known known (parts_of c) (Ok tt) now.known h in
+      let t = accepted_after before seen.known known (parts_of c) (Ok tt) now.known h in
       subst P is (parts_taken plan before (parts_of c) (made_by before c) (following before c) (content_makes plan before c)
       seen now a b s' known result t.0 t.1 k)
 
@@ -518,7 +518,7 @@ index_of before known e = ap (λ k. k.modules) e
 -- the result of making the writes of a directory record in the module with this index is a result of accepting its parts
 pub directory_taken : {seen : EmitState} (plan : PlanTables) (before : List Part) (s : EmitState) (entries : List GsdEntry) → seen ≡ s
     → EmitAfter plan before s → (a b : Outputs) (s' : EmitState) (known : RulesState) (index : ℕ) (result : Result (Unit {0}) LinkFault)
-    → index ≡ seen.known.modules → RulesTake seen.known known (directory_parts entries) (Ok tt)
+    → index ≡ seen.known.modules → RulesAccept seen.known known (directory_parts entries) (Ok tt)
     → Goes a b (begin_writes seen ++ directory_writes index entries (begun_reporting seen)) s'
     (let now : EmitState = record seen { known = known } in
     with_reporting (with_directory index entries (begun_reporting seen)) now) result
@@ -544,7 +544,7 @@ location_of before known e = ap (λ k. (k.modules, k.section)) e
 pub text_taken : {seen : EmitState} (plan : PlanTables) (before : List Part) (s : EmitState) (address : ℕ) (text : List ℕ) → seen ≡ s
     → EmitAfter plan before s → (a b : Outputs) (s' : EmitState) (known : RulesState) (location : Entered)
     (result : Result (Unit {0}) LinkFault) → ◌≡◌ {A = Entered} location (s.known.modules, s.known.section)
-    → RulesTake seen.known known (Text address text ∷ []) (Ok tt)
+    → RulesAccept seen.known known (Text address text ∷ []) (Ok tt)
     → Goes a b (begin_writes seen ++ held_writes (begun_reporting seen).held) s'
     (let now : EmitState = record seen { known = known } in
     with_reporting (with_text location.0 location.1 address text (begun_reporting seen)) now) result
@@ -583,19 +583,19 @@ module _ (plan : PlanTables) (before : List Part) (relocations : List Relocation
   relocations_make = content_makes plan before (records.Relocations relocations)
 
   pub relocations_refused : (a : Outputs) (s' : EmitState) (broken : ModuleFault) (result : Result (Unit {0}) LinkFault)
-      → RulesTake old.known mid.known parts (Err broken) → IsErrAnd result (λ f. f ≡ of_module broken)
+      → RulesAccept old.known mid.known parts (Err broken) → IsErrAnd result (λ f. f ≡ of_module broken)
       → AcceptsParts plan before (call_of a a old s') parts result
   relocations_refused a s' broken result h f =
       parts_refused plan before parts (λ t. []) (relocating relocations) relocations_make old stands a s' mid.known
-      broken result (taken_after before old.known mid.known parts (Err broken) stands.known h) f
+      broken result (accepted_after before old.known mid.known parts (Err broken) stands.known h) f
 
   pub relocations_taken : (a b : Outputs) (s' : EmitState) (result : Result (Unit {0}) LinkFault)
-      → RulesTake old.known mid.known parts (Ok tt) → mid.reporting ≡ relocating relocations old.reporting
+      → RulesAccept old.known mid.known parts (Ok tt) → mid.reporting ≡ relocating relocations old.reporting
       → mid.has_begun ≡ old.has_begun → mid.fault ≡ old.fault
       → Goes a b (begin_writes mid) s' (with_reporting (begun_reporting mid) mid) result
       → AcceptsParts plan before (call_of a b old s') parts result
   relocations_taken a b s' result h e f g k =
-      let t = taken_after before old.known mid.known parts (Ok tt) stands.known h in
+      let t = accepted_after before old.known mid.known parts (Ok tt) stands.known h in
       let P : EmitState → Type 0 = λ x. Goes a b (begin_writes x) s' (with_reporting (begun_reporting x) x) result in
       let Q : ReporterState → Type 0 = λ u. Goes a b (begin_writes old) s'
       (let x : EmitState = record old { known = mid.known } in with_reporting u x) result in

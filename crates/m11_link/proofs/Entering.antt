@@ -14,7 +14,7 @@ use Rattle.m11_obj_blocks.specs.Tapes.{tape_block}
 use Rattle.m11_obj.specs.declared.gsd.GsdEntry.{GsdEntry}
 use Rattle.m11_obj.specs.declared.gsd.GsdKind.{GsdKind}
 use Rattle.m11_obj.specs.declared.gsd.GsdKind.TheVariants as kind
-use Rattle.m11_link.specs.Emit.{Goes, EmitKeeps, ReporterState, defined_by, defined_with, defined_with_all, entries_writes, held_writes, with_count, with_entries, with_entry, with_held, with_name, with_symbol, with_text}
+use Rattle.m11_link.specs.Emit.{Goes, EmitBecomes, ReporterState, defined_by, defined_with, defined_with_all, entries_writes, held_writes, with_count, with_entries, with_entry, with_held, with_name, with_symbol, with_text}
 use Rattle.m11_link_text.specs.Findings.{planned}
 use Rattle.m11_link_text.specs.Lines.{different_line, multiple_line}
 use Rattle.m11_link.specs.Front.{front_writes}
@@ -209,7 +209,7 @@ symbol_refers a t index entry e =
     subst P (sym e) (gains_nothing link a, refl)
 
 kept_or_refused : (a : Outputs) (s expected : ReporterState) (xs : List Write) (result : Result (Unit {0}) LinkFault)
-    → EmitKeeps s expected result → xs ≡ [] → Goes a a xs s expected result
+    → EmitBecomes s expected result → xs ≡ [] → Goes a a xs s expected result
 kept_or_refused a s expected xs (Ok done) h e = (rw e (gains_nothing link a), h)
 kept_or_refused a s expected xs (Err fault.NoMemory) h e = refused_between link a xs
 kept_or_refused a s expected xs (Err fault.Read) h e = absurd h
@@ -228,14 +228,14 @@ kept_or_refused a s expected xs (Err fault.TooMuch) h e = absurd h
 kept_or_refused a s expected xs (Err fault.TextOutside) h e = absurd h
 
 pub symbol_first : (a : Outputs) (t s : ReporterState) (index : ℕ) (entry : GsdEntry) (result : Result (Unit {0}) LinkFault)
-    → defines entry ≡ true → is_among t.defined entry.name ≡ false → EmitKeeps s (with_name entry.name t) result
+    → defines entry ≡ true → is_among t.defined entry.name ≡ false → EmitBecomes s (with_name entry.name t) result
     → Goes a a (symbol_writes (planned t.plan) index t.defined entry) s (with_symbol index entry t) result
 symbol_first a t s index entry result d m h =
     let P : Bool → Type 0 = λ x. Goes a a (reported_by x (is_among t.defined entry.name) t index entry) s
     (kept_by x (is_among t.defined entry.name) t index entry) result in
     let Q : Bool → Type 0 = λ x. Goes a a (reported_by true x t index entry) s (kept_by true x t index entry) result in
     let R : Bool → Type 0 = λ x.
-    EmitKeeps s (let k : ReporterState = record t { defined = cond x t.defined (t.defined ++ entry.name ∷ []) } in k) result in
+    EmitBecomes s (let k : ReporterState = record t { defined = cond x t.defined (t.defined ++ entry.name ∷ []) } in k) result in
     subst P (sym d) (subst Q (sym m) (kept_or_refused a s (kept_by true false t index entry) [] result (subst R m h) refl))
 
 pub symbol_again : {A : Type 0} (a b : Outputs) (t s : ReporterState) (index : ℕ) (entry : GsdEntry) (result : Result A LinkFault)

@@ -17,10 +17,10 @@ use Rattle.m11_link_layout.specs.declared.fault.LinkFault.{LinkFault}
 use Rattle.m11_link_layout.specs.declared.fault.LinkFault.TheVariants as fault
 use Rattle.m11_base_writes.specs.Passes.{pass_of}
 use Rattle.m11_link.specs.FirstPass.{LaysOut, LaysOutObject, Reaches, ReadsFirst, LayoutBetween}
-use Rattle.m11_link.specs.Objects.{Item, AreItems, BlockOf, ObjectEnds, Refused, GivesItems, BeginsItems, ObjectItems, taken, taken_item, unless_too_large}
+use Rattle.m11_link.specs.Objects.{Item, AreItems, BlockOf, ObjectEnds, Refused, GivesItems, BeginsItems, ObjectItems, taken, accepted_item, unless_too_large}
 use Rattle.m11_link.specs.Objects as objects
 use Rattle.m11_base.proofs.FeedsRead.{SoFar, begin, all_read, failed_here, given_more, none_failed, read_more}
-use Rattle.m11_link.proofs.ItemsAccepted.{Decides, bind_on, bind_stops, block_decides, block_taken, decides_more, decides_then, end_decides, end_taken, ends_again, ends_first, fault_after, one_taken, taken_after}
+use Rattle.m11_link.proofs.ItemsAccepted.{Decides, bind_on, bind_stops, block_decides, block_taken, decides_more, decides_then, end_decides, end_taken, ends_again, ends_first, fault_after, one_taken, accepted_after}
 use Rattle.m11_link.proofs.Steady.{objects_come}
 use Rattle.m11_link.proofs.ObjectsRead.{Walked, StopsObject, walk_begins, walk_ends, walk_more, walk_stops, walk_whole}
 
@@ -67,7 +67,7 @@ module _ (text text1 : Option Text) (faults faults1 room1 bottom : ℕ) (before 
       done = l.done ++ BlockOf content ∷ [];
       walked = walked;
       parts = l.parts ++ record_parts content;
-      taken-is = taken_after before l.done (BlockOf content ∷ []) l.parts l.taken-is
+      taken-is = accepted_after before l.done (BlockOf content ∷ []) l.parts l.taken-is
           ∙ one_taken l.parts (BlockOf content) (Ok (l.parts ++ record_parts content))
           (block_taken l.parts content is t.sound);
       stands = t;
@@ -93,7 +93,7 @@ module _ (text text1 : Option Text) (faults faults1 room1 bottom : ℕ) (before 
         end.0,
         record {
           parts = l.parts ++ EndOfFile ∷ [];
-          taken-is = taken_after before l.done (ObjectEnds ∷ []) l.parts l.taken-is
+          taken-is = accepted_after before l.done (ObjectEnds ∷ []) l.parts l.taken-is
               ∙ one_taken l.parts ObjectEnds (Ok (l.parts ++ EndOfFile ∷ [])) (end_taken l.parts t.sound);
           stands = record { stands = t; between = ends_again l.parts t.sound };
         },
@@ -113,7 +113,7 @@ module _ (text text1 : Option Text) (faults faults1 room1 bottom : ℕ) (before 
     h.0,
     l.done ++ Refused stopped ∷ [],
     h.1,
-    taken_after before l.done (Refused stopped ∷ []) l.parts l.taken-is,
+    accepted_after before l.done (Refused stopped ∷ []) l.parts l.taken-is,
   )
 
   pub laid_stops : (inner : BlockFault)
@@ -182,7 +182,7 @@ module _ {F : Type 0} (text : F → Option Text) (faults : F → ℕ) where
       are = are_after l.sources (h.2.source ∷ []) l.items h.1 l.are (one_object h.2.source h.1 h.2.are);
       reaches = record {
         parts = h.3.parts;
-        taken-is = taken_after before l.items h.1 l.reaches.parts l.reaches.taken-is ∙ h.3.taken-is;
+        taken-is = accepted_after before l.items h.1 l.reaches.parts l.reaches.taken-is ∙ h.3.taken-is;
         stands = h.3.stands;
       };
     }
@@ -203,7 +203,7 @@ module _ {F : Type 0} (text : F → Option Text) (faults : F → ℕ) where
         begun = h.2.are;
         items-are = refl;
       },
-      (h.3.0, taken_after before l.items h.1 l.reaches.parts l.reaches.taken-is ∙ h.3.1),
+      (h.3.0, accepted_after before l.items h.1 l.reaches.parts l.reaches.taken-is ∙ h.3.1),
     )
     object_stops fault.NoMemory h = none_failed text faults initial now index l.sources l.feeds inside d x z x-is h
     object_stops stopped h =
@@ -217,7 +217,7 @@ module _ {F : Type 0} (text : F → Option Text) (faults : F → ℕ) where
             are = are_after l.sources (h.2.source ∷ given.0) l.items (h.1 ++ others.0) l.are
                 (objects.AreItems.Object h.2.are others.1);
           },
-          taken_after before l.items (h.1 ++ others.0) l.reaches.parts l.reaches.taken-is
+          accepted_after before l.items (h.1 ++ others.0) l.reaches.parts l.reaches.taken-is
               ∙ fault_after l.reaches.parts h.1 others.0 stopped h.3,
         )
 

@@ -17,7 +17,7 @@ use Rattle.m11_link_layout.specs.Layout.{FirstFault, LayoutState, AcceptsBlock}
 use Rattle.m11_link_layout.specs.declared.fault.LinkFault.{LinkFault}
 use Rattle.m11_link_layout.specs.declared.fault.LinkFault.TheVariants as fault
 use Rattle.m11_link_layout.proofs.Walking.{head_none, rest_none}
-use Rattle.m11_link.specs.Objects.{◌>>=◌, Item, BlockOf, ObjectEnds, parts_or_fault, parts_by, taken, taken_item, taken_parts, unless_fault}
+use Rattle.m11_link.specs.Objects.{◌>>=◌, Item, BlockOf, ObjectEnds, parts_or_fault, parts_by, taken, accepted_item, accepted_parts, unless_fault}
 
 abbrev pub PartsOrFault : Type 0
 PartsOrFault = Result (List Part) LinkFault
@@ -39,13 +39,13 @@ bind_stops r f stopped e = ap (λ (a : PartsOrFault). a >>= f) e
 same_parts : (xs ys : List Part) → ◌≡◌ {A = PartsOrFault} (Ok xs) (Ok ys) → xs ≡ ys
 same_parts xs ys e = cc
 
-pub taken_after : (before : List Part) (xs ys : List Item) (parts : List Part) → taken before xs ≡ Ok parts
+pub accepted_after : (before : List Part) (xs ys : List Item) (parts : List Part) → taken before xs ≡ Ok parts
     → taken before (xs ++ ys) ≡ taken parts ys
-taken_after before [] ys parts e = ap (λ (these : List Part). taken these ys) (same_parts before parts e)
-taken_after before (x ∷ xs) ys parts e =
-    let first = bind_ok (taken_item before x) (λ these. taken these xs) parts e in
-    bind_on (taken_item before x) (λ these. taken these (xs ++ ys)) first.0 first.1
-    ∙ taken_after first.0 xs ys parts first.2
+accepted_after before [] ys parts e = ap (λ (these : List Part). taken these ys) (same_parts before parts e)
+accepted_after before (x ∷ xs) ys parts e =
+    let first = bind_ok (accepted_item before x) (λ these. taken these xs) parts e in
+    bind_on (accepted_item before x) (λ these. taken these (xs ++ ys)) first.0 first.1
+    ∙ accepted_after first.0 xs ys parts first.2
 
 split_fault : (r : PartsOrFault) (f g : List Part → PartsOrFault) (stopped : LinkFault) → (r >>= f) ≡ Err stopped
     → ((middle : List Part) → f middle ≡ Err stopped → g middle ≡ Err stopped) → (r >>= g) ≡ Err stopped
@@ -57,12 +57,12 @@ pub fault_after : (before : List Part) (xs ys : List Item) (stopped : LinkFault)
     → taken before (xs ++ ys) ≡ Err stopped
 fault_after before [] ys stopped e = absurd cc
 fault_after before (x ∷ xs) ys stopped e =
-    split_fault (taken_item before x) (λ these. taken these xs) (λ these. taken these (xs ++ ys)) stopped e
+    split_fault (accepted_item before x) (λ these. taken these xs) (λ these. taken these (xs ++ ys)) stopped e
     (λ middle h. fault_after middle xs ys stopped h)
 
-pub one_taken : (before : List Part) (item : Item) (result : PartsOrFault) → taken_item before item ≡ result
+pub one_taken : (before : List Part) (item : Item) (result : PartsOrFault) → accepted_item before item ≡ result
     → taken before (item ∷ []) ≡ result
-one_taken before item result e = alone (taken_item before item) ∙ e
+one_taken before item result e = alone (accepted_item before item) ∙ e
   where
     alone : (r : PartsOrFault) → (r >>= λ these. taken these []) ≡ r
     alone (Ok parts) = refl
@@ -82,7 +82,7 @@ rest_sound done (part ∷ before) parts e =
     (rest_none (fault_of done part) (first_fault (done ++ part ∷ []) (before ++ parts)) e))
 
 parts_taken : (before parts : List Part) → first_fault [] (before ++ parts) ≡ None
-    → taken_parts before parts ≡ Ok (before ++ parts)
+    → accepted_parts before parts ≡ Ok (before ++ parts)
 parts_taken before parts e =
     ap (λ (o : Option ModuleFault). unless_fault o (before ++ parts)) (rest_sound [] before parts e)
 
@@ -93,13 +93,13 @@ record_read (Err inner) e = absurd cc
 
 pub block_taken : (before : List Part) (bytes : List ℕ) → IsRecord bytes
     → first_fault [] (before ++ record_parts bytes) ≡ None
-    → taken_item before (BlockOf bytes) ≡ Ok (before ++ record_parts bytes)
+    → accepted_item before (BlockOf bytes) ≡ Ok (before ++ record_parts bytes)
 block_taken before bytes is e =
-    bind_on (parts_by (BlockOf bytes)) (taken_parts before) (record_parts bytes) (record_read (content_of bytes) is)
+    bind_on (parts_by (BlockOf bytes)) (accepted_parts before) (record_parts bytes) (record_read (content_of bytes) is)
     ∙ parts_taken before (record_parts bytes) e
 
 pub end_taken : (before : List Part) → first_fault [] (before ++ EndOfFile ∷ []) ≡ None
-    → taken_item before ObjectEnds ≡ Ok (before ++ EndOfFile ∷ [])
+    → accepted_item before ObjectEnds ≡ Ok (before ++ EndOfFile ∷ [])
 end_taken before e = parts_taken before (EndOfFile ∷ []) e
 
 -- if a list with only the end of a file has no fault, the end of a file has no fault
@@ -137,7 +137,7 @@ decided before items broken e = e
 
 module _ (before : List Part) (item : Item) (parts : List Part)
     (comes : (broken : ModuleFault) → first_fault before parts ≡ Some broken
-    → taken_item before item ≡ Err (of_module broken))
+    → accepted_item before item ≡ Err (of_module broken))
   where
     first_decides : (stopped : LinkFault) (broken : ModuleFault) → first_fault before parts ≡ Some broken
         → stopped ≡ of_module broken → Decides before (item ∷ []) stopped
@@ -151,7 +151,7 @@ module _ (before : List Part) (item : Item) (parts : List Part)
     fault_decides stopped h = first_decides stopped h.0 h.1 h.2
 
 parts_refused : (before parts : List Part) (broken : ModuleFault) → first_fault before parts ≡ Some broken
-    → taken_parts before parts ≡ Err (of_module broken)
+    → accepted_parts before parts ≡ Err (of_module broken)
 parts_refused before parts broken e = ap (λ (o : Option ModuleFault). unless_fault o (before ++ parts)) e
 
 nothing_refused : (before : List Part) (broken : ModuleFault) → first_fault before [] ≡ Some broken → ⊥
@@ -160,7 +160,7 @@ nothing_refused before broken e = cc
 
 record_refused : (before : List Part) (content : Result Content RecordFault) (broken : ModuleFault)
     → first_fault before (parts_in content) ≡ Some broken
-    → (parts_or_fault content >>= taken_parts before) ≡ Err (of_module broken)
+    → (parts_or_fault content >>= accepted_parts before) ≡ Err (of_module broken)
 record_refused before (Ok content) broken e = parts_refused before (parts_of content) broken e
 record_refused before (Err inner) broken e = absurd (nothing_refused before broken e)
 
@@ -168,7 +168,7 @@ pub no_record_decides : (before : List Part) (bytes : List ℕ) (inner : RecordF
     → Decides before (BlockOf bytes ∷ []) (fault.Record inner)
 no_record_decides before bytes inner e =
     one_taken before (BlockOf bytes) (Err (fault.Record inner))
-    (bind_stops (parts_by (BlockOf bytes)) (taken_parts before) (fault.Record inner) (ap parts_or_fault e))
+    (bind_stops (parts_by (BlockOf bytes)) (accepted_parts before) (fault.Record inner) (ap parts_or_fault e))
 
 pub parts_decide : (before : List Part) (bytes : List ℕ) (stopped : LinkFault)
     → FirstFault before (record_parts bytes) stopped → Decides before (BlockOf bytes ∷ []) stopped
@@ -194,7 +194,7 @@ pub decides_then : (before parts : List Part) (done items : List Item) (stopped 
     → Decides parts items stopped → Decides before (done ++ items) stopped
 decides_then before parts done items fault.Read e h = absurd h
 decides_then before parts done items fault.NoMemory e h = tt
-decides_then before parts done items stopped e h = taken_after before done items parts e ∙ h
+decides_then before parts done items stopped e h = accepted_after before done items parts e ∙ h
 
 pub decides_more : (before : List Part) (items more : List Item) (stopped : LinkFault)
     → Decides before items stopped → Decides before (items ++ more) stopped

@@ -12,7 +12,7 @@ use Rattle.m11_link_modules.specs.Steps.{AcceptsOne, known_after, with_optional_
 use Rattle.m11_link_modules.specs.TextRelocation.{InText, in_text, stored_by, stored_in}
 use Rattle.m11_link_modules.proofs.KnownAfter.{known_after_part}
 use Rattle.m11_link_layout.specs.Plan.{PlanTables}
-use Rattle.m11_link_layout.specs.Tables.{LayoutTables, nothing_gathered}
+use Rattle.m11_link_layout.specs.Tables.{LayoutTables, nothing_collected}
 use Rattle.m11_link_layout.proofs.Walking.{walked}
 use Rattle.m11_link_text.specs.Findings.{Findings, planned}
 use Rattle.m11_link_text.specs.Relocation.{modulo}
@@ -78,7 +78,7 @@ held_is_last plan before state stands =
     let P : RulesState → Type 0 = λ known. IsAsLong known.text state.reporting.held in
     let Q : Option PlacedText → Type 0 = λ held. IsAsLong (known_of before).text held in
     subst P (sym stands.known) (subst Q (sym stands.held)
-    (walked 0 (λ these g. AsLongAfter found these) (as_long_on found) [] before nothing_gathered stands.sound
+    (walked 0 (λ these g. AsLongAfter found these) (as_long_on found) [] before nothing_collected stands.sound
     (as_long_first found)))
 
 -- ---- a relocation that was checked against the last text

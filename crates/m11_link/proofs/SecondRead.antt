@@ -17,7 +17,7 @@ use Rattle.m11_link_layout.specs.declared.fault.LinkFault.TheVariants as fault
 use Rattle.m11_base_writes.specs.declared.outputs.Output.{Output}
 use Rattle.m11_link.specs.Emit.{EmitEnds, EmitAfter, EmitState, GoesOn, AcceptsBlock, AcceptsParts, call_of, written}
 use Rattle.m11_base_writes.specs.Passes.{pass_of}
-use Rattle.m11_link.specs.Objects.{◌>>=◌, AreItems, Item, BlockOf, ObjectEnds, Refused, GiveItems, GivesItems, taken, taken_item}
+use Rattle.m11_link.specs.Objects.{◌>>=◌, AreItems, Item, BlockOf, ObjectEnds, Refused, GiveItems, GivesItems, taken, accepted_item}
 use Rattle.m11_link.specs.Objects as objects
 use Rattle.m11_link.specs.declared.emit.LinkDone.{LinkDone}
 use Rattle.m11_link_text.specs.Findings.{planned}
@@ -28,7 +28,7 @@ use Rattle.m11_base_writes.specs.Outputs.{Outputs, Write, flushes}
 use Rattle.m11_base.proofs.FeedsRead.{SoFar, begin, all_read, failed_here, given_more, none_failed, read_more}
 use Rattle.m11_link.proofs.FirstRead.{are_after, one_object}
 use Rattle.m11_link.proofs.Steady.{objects_come}
-use Rattle.m11_link.proofs.ItemsAccepted.{fault_after, PartsOrFault, Decides, block_taken, decides_more, decides_then, end_decides, end_taken, ends_again, no_record_decides, one_taken, parts_decide, taken_after}
+use Rattle.m11_link.proofs.ItemsAccepted.{fault_after, PartsOrFault, Decides, block_taken, decides_more, decides_then, end_decides, end_taken, ends_again, no_record_decides, one_taken, parts_decide, accepted_after}
 use Rattle.m11_link.proofs.ObjectsRead.{StopsObject, Walked, walk_begins, walk_ends, walk_more, walk_stops, walk_whole}
 use Rattle.m11_base_writes.proofs.Writing.{gains_nothing, gains_then, stops_after}
 use Rattle.m11_link_layout.proofs.Standing.{sound_after}
@@ -92,7 +92,7 @@ module _ (plan : PlanTables) (b has_begun : Bool) (before : List Part) (items : 
       ap (λ x. begun_by x own) begun ∙ begun_on b items own in
       record {
         parts = w.parts;
-        taken-is = taken_after before items own parts taken-is ∙ w.taken-is;
+        taken-is = accepted_after before items own parts taken-is ∙ w.taken-is;
         gains = subst P e w.gains;
       }
 
@@ -105,7 +105,7 @@ module _ (plan : PlanTables) (b has_begun : Bool) (before : List Part) (items : 
         ∙ ap (λ (these : List Item). items ++ these) (append_assoc w.done w.more others)
         ∙ sym (append_assoc items w.done (w.more ++ others));
     parts = w.parts;
-    taken-is = taken_after before items w.done parts taken-is ∙ w.taken-is;
+    taken-is = accepted_after before items w.done parts taken-is ∙ w.taken-is;
     stops = w.stops;
   }
 
@@ -134,7 +134,7 @@ module _ (plan : PlanTables) (b has_begun : Bool) (before : List Part) (items : 
 
 -- an item has no fault, and `Stop` holds of the writes that it adds
 abbrev Within : PlanTables → Bool → List Part → Item → (List Write → Type 0) → Type 0
-Within plan has_begun parts item Stop = (these : List Part) × (taken_item parts item ≡ Ok these)
+Within plan has_begun parts item Stop = (these : List Part) × (accepted_item parts item ≡ Ok these)
     × GoesOn Stop (written plan has_begun parts) (written plan true these)
 
 abbrev Halts : PlanTables → Bool → List Part → Item → Outputs → Outputs → LinkFault → Type 0
@@ -184,8 +184,8 @@ module _ (plan : PlanTables) (parts : List Part) (sound : first_fault [] parts �
 
 -- if a list of one item has a fault, the item has this fault
 refused_alone : (parts : List Part) (item : Item) (stopped : LinkFault) → taken parts (item ∷ []) ≡ Err stopped
-    → taken_item parts item ≡ Err stopped
-refused_alone parts item stopped e = alone (taken_item parts item) e
+    → accepted_item parts item ≡ Err stopped
+refused_alone parts item stopped e = alone (accepted_item parts item) e
   where
     alone : (r : PartsOrFault) → (r >>= λ these. taken these []) ≡ Err stopped → r ≡ Err stopped
     alone (Ok these) h = absurd cc
@@ -204,7 +204,7 @@ module _ (text : Option FeedText) (faults faults' : ℕ) (plan : PlanTables) (b 
       let P : Bool → Type 0 = λ x. Gains first new (written plan x parts) in
       record { parts = parts; taken-is = taken-is; gains = subst P begun (still e) }
 
-  refused_now : (stopped : LinkFault) → taken_item parts item ≡ Err stopped → new ≡ now
+  refused_now : (stopped : LinkFault) → accepted_item parts item ≡ Err stopped → new ≡ now
       → StopsBefore plan b before ((done ++ item ∷ []) ++ more) stopped first new
   unfolding exactly
   refused_now stopped r e = record {
@@ -216,14 +216,14 @@ module _ (text : Option FeedText) (faults faults' : ℕ) (plan : PlanTables) (b 
     refused = r;
   }
 
-  within_now : (Stop : List Write → Type 0) (these : List Part) → taken_item parts item ≡ Ok these
+  within_now : (Stop : List Write → Type 0) (these : List Part) → accepted_item parts item ≡ Ok these
       → Stop (written plan true these) → StopsWithin Stop plan before ((done ++ item ∷ []) ++ more)
   within_now Stop these t s = record {
     done = done ++ item ∷ [];
     more = more;
     split = refl;
     parts = these;
-    taken-is = taken_after before done (item ∷ []) parts taken-is ∙ one_taken parts item (Ok these) t;
+    taken-is = accepted_after before done (item ∷ []) parts taken-is ∙ one_taken parts item (Ok these) t;
     stops = s;
   }
 
@@ -315,7 +315,7 @@ module _ (text text1 : Option FeedText) (faults faults1 room1 : ℕ) (plan : Pla
       done = l.done ++ BlockOf content ∷ [];
       walked = walked;
       parts = l.parts ++ record_parts content;
-      taken-is = taken_after before l.done (BlockOf content ∷ []) l.parts l.taken-is
+      taken-is = accepted_after before l.done (BlockOf content ∷ []) l.parts l.taken-is
           ∙ one_taken l.parts (BlockOf content) (Ok (l.parts ++ record_parts content))
           (block_taken l.parts content is t.0.sound);
       stands = t.0;
@@ -341,7 +341,7 @@ module _ (text text1 : Option FeedText) (faults faults1 room1 : ℕ) (plan : Pla
         end.0,
         record {
           parts = l.parts ++ EndOfFile ∷ [];
-          taken-is = taken_after before l.done (ObjectEnds ∷ []) l.parts l.taken-is
+          taken-is = accepted_after before l.done (ObjectEnds ∷ []) l.parts l.taken-is
               ∙ one_taken l.parts ObjectEnds (Ok (l.parts ++ EndOfFile ∷ [])) (end_taken l.parts t.0.sound);
           stands = t.0;
           between = ends_again l.parts t.0.sound;
@@ -393,7 +393,7 @@ module _ (text text1 : Option FeedText) (faults faults1 room1 : ℕ) (plan : Pla
     h.0,
     l.done ++ Refused stopped ∷ [],
     h.1,
-    taken_after before l.done (Refused stopped ∷ []) l.parts l.taken-is,
+    accepted_after before l.done (Refused stopped ∷ []) l.parts l.taken-is,
     refused_here stopped,
   )
 
@@ -455,7 +455,7 @@ module _ {F : Type 0} (text : F → Option FeedText) (faults : F → ℕ) where
       are = are_after l.sources (h.2.source ∷ []) l.items h.1 l.are (one_object h.2.source h.1 h.2.are);
       emitted = record {
         parts = h.3.parts;
-        taken-is = taken_after before l.items h.1 l.emitted.parts l.emitted.taken-is ∙ h.3.taken-is;
+        taken-is = accepted_after before l.items h.1 l.emitted.parts l.emitted.taken-is ∙ h.3.taken-is;
         stands = h.3.stands;
         between = h.3.between;
         begun = h.3.begun ∙ ap (λ x. begun_by x h.1) l.emitted.begun ∙ begun_on b l.items h.1;
@@ -468,7 +468,7 @@ module _ {F : Type 0} (text : F → Option FeedText) (faults : F → ℕ) where
     of_items (fault.Write output) own others e = tt
     of_items fault.NoMemory own others e = tt
     of_items stopped own others e =
-        taken_after before l.items (own ++ others) l.emitted.parts l.emitted.taken-is
+        accepted_after before l.items (own ++ others) l.emitted.parts l.emitted.taken-is
         ∙ fault_after l.emitted.parts own others stopped e
 
     module _ (own : List Item) (g : GivesItems (text x) own) (same : faults z ≡ faults x) where

@@ -145,10 +145,10 @@ Goes old new writes state expected (Ok done) = Gains old new writes × (state �
 Goes old new writes state expected (Err stopped) = Stops old new writes stopped
 
 -- the state is the expected one; or memory was refused, and nothing is known of the state; no other fault is possible
-abbrev pub EmitKeeps : ReporterState → ReporterState → Result (Unit {0}) LinkFault → Type 0
-EmitKeeps state expected (Ok done) = state ≡ expected
-EmitKeeps state expected (Err fault.NoMemory) = ⊤
-EmitKeeps state expected (Err stopped) = ⊥
+abbrev pub EmitBecomes : ReporterState → ReporterState → Result (Unit {0}) LinkFault → Type 0
+EmitBecomes state expected (Ok done) = state ≡ expected
+EmitBecomes state expected (Err fault.NoMemory) = ⊤
+EmitBecomes state expected (Err stopped) = ⊥
 
 -- ---- calls
 

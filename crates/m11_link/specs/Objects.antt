@@ -88,16 +88,16 @@ unless_fault None parts = Ok parts
 unless_fault (Some broken) parts = Err (of_module broken)
 
 -- the earlier parts and then these; or the first fault of these
-abbrev pub taken_parts : List Part → List Part → Result (List Part) LinkFault
-taken_parts before parts = unless_fault (first_fault before parts) (before ++ parts)
+abbrev pub accepted_parts : List Part → List Part → Result (List Part) LinkFault
+accepted_parts before parts = unless_fault (first_fault before parts) (before ++ parts)
 
-abbrev pub taken_item : List Part → Item → Result (List Part) LinkFault
-taken_item before item = parts_by item >>= taken_parts before
+abbrev pub accepted_item : List Part → Item → Result (List Part) LinkFault
+accepted_item before item = parts_by item >>= accepted_parts before
 
 -- the earlier parts and then those of the items; or the first fault of the items, in their order
 abbrev pub taken : List Part → List Item → Result (List Part) LinkFault
 taken before [] = Ok before
-taken before (item ∷ items) = taken_item before item >>= λ parts. taken parts items
+taken before (item ∷ items) = accepted_item before item >>= λ parts. taken parts items
 
 -- ---- the first pass
 

@@ -12,7 +12,7 @@ use Rattle.m11_link.specs.Emit.{EmitState, EmitAfter, written}
 use Rattle.m11_link_text.specs.Findings.{planned}
 use Rattle.m11_base_writes.specs.Passes.{Pass}
 use Rattle.m11_link.specs.FirstPass.{AreAccepted, ReadsFirst}
-use Rattle.m11_link.specs.Objects.{Item, taken, taken_item, GivesItems, BeginsItems, GiveItems, FailAfter}
+use Rattle.m11_link.specs.Objects.{Item, taken, accepted_item, GivesItems, BeginsItems, GiveItems, FailAfter}
 use Rattle.m11_link.specs.Outputs.{Gains, StopsIn, StopsBetween}
 use Rattle.m11_base_writes.specs.Outputs.{AreFlushed, Outputs, Write, flushes}
 use Rattle.m11_link.specs.Written.{counted, link_writes}
@@ -41,7 +41,7 @@ pub record StopsBefore (plan : PlanTables) (has_begun : Bool) (before : List Par
   pub more : List Item
   pub split : items ≡ done ++ item ∷ more
   pub exactly : WrittenAfter plan has_begun before done old new
-  pub refused : taken_item exactly.parts item ≡ Err stopped
+  pub refused : accepted_item exactly.parts item ≡ Err stopped
 
 -- some prefix of the items has no fault, and the pass stops among the writes of the front and of this prefix
 pub record StopsWithin (Stop : List Write → Type 0) (plan : PlanTables) (before : List Part) (items : List Item) : Type 0

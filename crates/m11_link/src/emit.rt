@@ -8,7 +8,7 @@ ghost use Rattle.m11_obj.specs.Reading.{AreEntries, AreRelocations, IsRecord, ch
 ghost use Rattle.m11_obj_blocks.specs.Tapes.{tape_block};
 ghost use Rattle.m11_link_modules.specs.Grammar.{directory_parts};
 ghost use Rattle.m11_link_modules.specs.Parts.{Part, EndOfDirectory, EndOfFile, EndOfModule, Relocated, Relocations, Text};
-ghost use Rattle.m11_link_modules.specs.Steps.{RulesTake, AcceptsOne};
+ghost use Rattle.m11_link_modules.specs.Steps.{RulesAccept, AcceptsOne};
 ghost use Rattle.m11_link_layout.specs.Plan.{PlanTables};
 ghost use Rattle.m11_link_layout.specs.declared.fault.LinkFault.{LinkFault};
 ghost use Rattle.m11_link.specs.Emit.{EmitEnds, EmitAfter, FailsAgain, Goes, HoldsLastText, AcceptsBlock, AcceptsParts, begin_writes, begun_reporting, call_of, directory_writes, held_with, held_with_all, held_writes, relocated_parts, with_directory, with_held, with_reporting, with_text};
@@ -332,13 +332,13 @@ impl Emit {
 
     // Checks that a relocation record may come here, then reads and checks its relocations, and stores their values. The outer
     // error is a fault of the record itself, which takes precedence; the inner error is the first fault of a part.
-    #[tactic(auto, using(m11_link_modules::proofs::Taking::taken_then, m11_link_modules::proofs::Taking::refused_first))]
+    #[tactic(auto, using(m11_link_modules::proofs::Taking::accepted_then, m11_link_modules::proofs::Taking::refused_first))]
     fn store_relocations(
         &mut self,
         unread: &mut UnreadRelocations<'_>,
     ) -> Result<Result<(), ModuleFault>, RecordFault>
         ensures read { checked result ≡ checked (relocations_of unread.old) }
-        ensures judged { IfOk result (λ judged. RulesTake self.old.known self.new.known
+        ensures judged { IfOk result (λ judged. RulesAccept self.old.known self.new.known
             (Relocations ∷ relocated_parts (relocations_left unread.old)) judged) }
         ensures stored { IfOk result (λ judged. IfOk judged (λ _. HoldsLastText self.old → self.new.reporting
             ≡ with_held (held_with_all (planned self.old.reporting.plan) self.old.reporting.held
@@ -359,7 +359,7 @@ impl Emit {
         unread: &mut UnreadRelocations<'_>,
     ) -> Result<Result<(), ModuleFault>, RecordFault>
         ensures read { checked result ≡ checked (relocations_of unread.old) }
-        ensures judged { IfOk result (λ judged. RulesTake self.old.known self.new.known
+        ensures judged { IfOk result (λ judged. RulesAccept self.old.known self.new.known
             (relocated_parts (relocations_left unread.old)) judged) }
         ensures stored { IfOk result (λ judged. IfOk judged (λ _. HoldsLastText self.old → self.new.reporting
             ≡ with_held (held_with_all (planned self.old.reporting.plan) self.old.reporting.held

@@ -6,7 +6,7 @@ ghost use Rattle.m11_obj_blocks.specs.Tapes.{tape_block};
 ghost use Rattle.m11_link_modules.specs.Names.{is_among};
 ghost use Rattle.m11_link_modules.specs.Rules.{defines};
 ghost use Rattle.m11_link_layout.specs.Sections.{attributes_by};
-ghost use Rattle.m11_link.specs.Emit.{Goes, EmitKeeps, IsAsLong, directory_writes, entries_writes, held_with, held_writes, with_count, with_directory, with_entries, with_entry, with_held, with_name, with_symbol, with_text};
+ghost use Rattle.m11_link.specs.Emit.{Goes, EmitBecomes, IsAsLong, directory_writes, entries_writes, held_with, held_writes, with_count, with_directory, with_entries, with_entry, with_held, with_name, with_symbol, with_text};
 ghost use Rattle.m11_link_text.specs.Findings.{planned};
 ghost use Rattle.m11_link.specs.Front.{front_writes};
 ghost use Rattle.m11_base_writes.specs.States.{OutputState, optional_output, output_of};
@@ -338,7 +338,7 @@ impl Reporter {
 
     // Adds the name of a defined global. Fails if memory is refused.
     fn define(&mut self, name: Name) -> Result<(), LinkFault>
-        ensures { EmitKeeps self.new (with_name name self.old) result }
+        ensures { EmitBecomes self.new (with_name name self.old) result }
     {
         self.defined.insert(name)?;
         Ok(())

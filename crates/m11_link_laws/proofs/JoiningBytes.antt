@@ -6,7 +6,7 @@ use Rattle.m11_obj_blocks.specs.Limited.{Between, most_bytes}
 use Rattle.m11_obj_blocks.specs.Blocks.{AreRead, first_block}
 use Rattle.m11_obj_blocks.proofs.BlockFrames.{begun, nothing_read, start_within, zero_in_front}
 use Rattle.m11_link_modules.specs.Parts.{Part}
-use Rattle.m11_link.specs.Objects.{AreItems, BlockOf, Item, ObjectEnds, ObjectItems, outcome, taken, taken_item}
+use Rattle.m11_link.specs.Objects.{AreItems, BlockOf, Item, ObjectEnds, ObjectItems, outcome, taken, accepted_item}
 use Rattle.m11_link.specs.Objects as objects
 use Rattle.m11_link.proofs.ItemsAccepted.{bind_ok}
 use Rattle.m11_link.proofs.Sole.{objects_same}
@@ -67,7 +67,7 @@ pub found : (room : ℕ) (bytes : List ℕ) (items : List Item) → ObjectItems 
     → (before parts : List Part) → taken before items ≡ Ok parts → Found bytes items
 found room bytes _ (objects.ObjectItems.Begins {left = left} {rest = rest} {content = content} {items = items} e f h)
     before parts t =
-    let first = bind_ok (taken_item before (BlockOf content)) (λ these. taken these items) parts t in
+    let first = bind_ok (accepted_item before (BlockOf content)) (λ these. taken these items) parts t in
     let more = found left rest items h first.0 parts first.2 in
     record {
       contents = content ∷ more.contents;

@@ -14,16 +14,16 @@ use Rattle.m11_link_modules.specs.declared.stage.Stage.{Stage}
 use Rattle.m11_link_modules.specs.declared.stage.Stage.TheVariants.{Between}
 use Rattle.m11_link_modules.specs.Parts.{Part, EndOfFile, parts_in, parts_of}
 use Rattle.m11_link_modules.specs.Positions.{known_of, stage_after, stage_from}
-use Rattle.m11_link_modules.specs.Rules.{fault_in_order, fault_known, fault_of, first_fault, may_stand}
+use Rattle.m11_link_modules.specs.Rules.{fault_in_order, fault_known, fault_of, first_fault, may_occur}
 use Rattle.m11_link_modules.specs.Steps.{first_known_fault}
 use Rattle.m11_link_modules.proofs.KnownAfter.{faults_known}
 use Rattle.m11_link_layout.specs.Sections.{is_too_large}
 use Rattle.m11_link_layout.specs.declared.fault.LinkFault.TheVariants as fault
 use Rattle.m11_link_layout.proofs.Walking.{head_none, rest_none}
-use Rattle.m11_link.specs.Objects.{◌>>=◌, BlockOf, Item, ObjectEnds, Refused, parts_by, parts_or_fault, taken, taken_item, taken_parts, outcome, unless_fault, unless_too_large}
+use Rattle.m11_link.specs.Objects.{◌>>=◌, BlockOf, Item, ObjectEnds, Refused, parts_by, parts_or_fault, taken, accepted_item, accepted_parts, outcome, unless_fault, unless_too_large}
 use Rattle.m11_link_text.specs.Findings.{findings_of}
 use Rattle.m11_link.specs.Written.{link_writes}
-use Rattle.m11_link.proofs.ItemsAccepted.{PartsOrFault, bind_ok, fault_after, one_taken, taken_after}
+use Rattle.m11_link.proofs.ItemsAccepted.{PartsOrFault, bind_ok, fault_after, one_taken, accepted_after}
 use Rattle.m11_link_laws.specs.Joining.{LinkAlike}
 use Rattle.m11_link_laws.proofs.ItemsParts.{items_parts, parts_are, parts_within}
 use Rattle.m11_link_laws.proofs.JoiningEnds.{end_left, known_same, stage_same, without_append, without_ends}
@@ -40,10 +40,10 @@ order_then stage (x ∷ xs) ys h k =
     (h.0, order_then (stage_from stage (x ∷ [])) xs ys h.1 (subst P (stage_append stage (x ∷ []) xs) k))
 
 order_at : (stage : Stage) (xs : List Part) (part : Part) (ys : List Part) → InOrder stage (xs ++ part ∷ ys)
-    → may_stand part (stage_from stage xs) ≡ true
+    → may_occur part (stage_from stage xs) ≡ true
 order_at stage [] part ys h = h.0
 order_at stage (x ∷ xs) part ys h =
-    let P : Stage → Type 0 = λ s. may_stand part s ≡ true in
+    let P : Stage → Type 0 = λ s. may_occur part s ≡ true in
     subst P (sym (stage_append stage (x ∷ []) xs)) (order_at (stage_from stage (x ∷ [])) xs part ys h.1)
 
 may_be : (b : Bool) (fault : Option ModuleFault) → (if b then fault else Some BadOrder) ≡ None → b ≡ true
@@ -51,9 +51,9 @@ may_be true fault e = refl
 may_be false fault e = absurd cc
 
 stands : (before : List Part) (part : Part) → fault_of before part ≡ None
-    → may_stand part (stage_from Between before) ≡ true
+    → may_occur part (stage_from Between before) ≡ true
 unfolding fault_known known_of stage_after
-stands before part e = may_be (may_stand part (stage_from Between before)) (fault_in_order (known_of before) part) e
+stands before part e = may_be (may_occur part (stage_from Between before)) (fault_in_order (known_of before) part) e
 
 order_after : (before parts : List Part) → first_fault before parts ≡ None
     → InOrder (stage_from Between before) parts
@@ -75,13 +75,13 @@ unless_none None parts these e = refl
 unless_none (Some said) parts these e = absurd cc
 
 content_order : (before : List Part) (content : Result Content RecordFault) (these : List Part)
-    → (parts_or_fault content >>= taken_parts before) ≡ Ok these
+    → (parts_or_fault content >>= accepted_parts before) ≡ Ok these
     → InOrder (stage_from Between before) (parts_in content)
 content_order before (Ok content) these e = order_after before (parts_of content)
     (unless_none (first_fault before (parts_of content)) (before ++ parts_of content) these e)
 content_order before (Err inner) these e = absurd cc
 
-item_order : (before : List Part) (item : Item) (these : List Part) → taken_item before item ≡ Ok these
+item_order : (before : List Part) (item : Item) (these : List Part) → accepted_item before item ≡ Ok these
     → InOrder (stage_from Between before) (parts_within item)
 item_order before (BlockOf bytes) these e = content_order before (content_of bytes) these e
 item_order before ObjectEnds these e = order_after before (EndOfFile ∷ [])
@@ -97,7 +97,7 @@ items_order : (before : List Part) (items : List Item) (parts : List Part) → t
 unfolding items_parts
 items_order before [] parts e = tt
 items_order before (item ∷ items) parts e =
-    let first = bind_ok (taken_item before item) (λ these. taken these items) parts e in
+    let first = bind_ok (accepted_item before item) (λ these. taken these items) parts e in
     let P : Stage → Type 0 = λ s. InOrder s (items_parts items) in
     let alone : taken before (item ∷ []) ≡ Ok first.0 = one_taken before item (Ok first.0) first.1 in
     let is : first.0 ≡ before ++ parts_within item =
@@ -149,7 +149,7 @@ unless_same None parts others same = same
 unless_same (Some said) parts others same = refl
 
 module _ (before other : List Part) (same : without_ends before ≡ without_ends other) where
-  parts_same : (parts : List Part) → Same (taken_parts before parts) (taken_parts other parts)
+  parts_same : (parts : List Part) → Same (accepted_parts before parts) (accepted_parts other parts)
   parts_same parts =
       let P : Option ModuleFault → Type 0 = λ broken.
       Same (unless_fault (first_fault before parts) (before ++ parts)) (unless_fault broken (other ++ parts)) in
@@ -157,7 +157,7 @@ module _ (before other : List Part) (same : without_ends before ≡ without_ends
       (unless_same (first_fault before parts) (before ++ parts) (other ++ parts)
       (without_append before parts ∙ ap (λ these. these ++ without_ends parts) same ∙ sym (without_append other parts)))
 
-  parts_or_fault_same : (result : PartsOrFault) → Same (result >>= taken_parts before) (result >>= taken_parts other)
+  parts_or_fault_same : (result : PartsOrFault) → Same (result >>= accepted_parts before) (result >>= accepted_parts other)
   parts_or_fault_same (Ok parts) = parts_same parts
   parts_or_fault_same (Err stopped) = refl
 
@@ -165,7 +165,7 @@ taken_same : (items : List Item) (before other : List Part) → without_ends bef
     → Same (taken before items) (taken other items)
 taken_same [] before other same = same
 taken_same (item ∷ items) before other same =
-    same_then (taken_item before item) (taken_item other item) (λ these. taken these items) (λ these. taken these items)
+    same_then (accepted_item before item) (accepted_item other item) (λ these. taken these items) (λ these. taken these items)
     (parts_or_fault_same before other same (parts_by item)) (λ parts others k. taken_same items parts others k)
 
 -- ---- files, and their blocks in one file
@@ -187,7 +187,7 @@ joined_items (contents ∷ files) = blocks contents ++ joined_items files
 abbrev pub IsWhole : List (List ℕ) → Type 0
 IsWhole contents = (parts : List Part) × (taken [] (blocks contents ++ ObjectEnds ∷ []) ≡ Ok parts)
 
-end_between : (stage : Stage) → may_stand EndOfFile stage ≡ true → stage ≡ Between
+end_between : (stage : Stage) → may_occur EndOfFile stage ≡ true → stage ≡ Between
 end_between Between h = refl
 end_between stage h = absurd (false≢true h)
 
@@ -211,7 +211,7 @@ end_sound : (before : List Part) → stage_from Between before ≡ Between → f
 unfolding first_fault fault_known known_of stage_after
 end_sound before s =
     let P : Stage → Type 0 = λ stage.
-    option_or (if may_stand EndOfFile stage then None else Some BadOrder) None ≡ None in
+    option_or (if may_occur EndOfFile stage then None else Some BadOrder) None ≡ None in
     subst P (sym s) refl
 
 end_taken : (before : List Part) (items : List Item) → stage_from Between before ≡ Between
@@ -237,8 +237,8 @@ module _ (contents : List (List ℕ)) (more others : List Item) (before other : 
         let closed = closes contents w before parts s e in
         to_same (taken before (blocks contents ++ ObjectEnds ∷ more)) (taken (parts ++ EndOfFile ∷ []) more)
         (taken other (blocks contents ++ others)) (taken those others)
-        (taken_after before (blocks contents) (ObjectEnds ∷ more) parts e ∙ end_taken parts more closed)
-        (taken_after other (blocks contents) others those f)
+        (accepted_after before (blocks contents) (ObjectEnds ∷ more) parts e ∙ end_taken parts more closed)
+        (accepted_after other (blocks contents) others those f)
         (rest (parts ++ EndOfFile ∷ []) those (stage_append Between parts (EndOfFile ∷ []) ∙ closed)
         (end_left parts ∙ same))
     file_then (Ok parts) (Err reported) e f same = absurd same

@@ -7,7 +7,7 @@ use Rattle.m11_link_modules.specs.declared.stage.Stage.{Stage}
 use Rattle.m11_link_modules.specs.declared.stage.Stage.TheVariants.{Between, InBody}
 use Rattle.m11_link_modules.specs.Parts.{Part, Entry, Text, Relocations, Relocated, EndOfFile}
 use Rattle.m11_link_modules.specs.Positions.{stage_from}
-use Rattle.m11_link_modules.specs.Rules.{may_stand}
+use Rattle.m11_link_modules.specs.Rules.{may_occur}
 use Rattle.m11_link_text.specs.Findings.{Findings, findings_of}
 use Rattle.m11_link.specs.Front.{front_writes}
 use Rattle.m11_base_writes.specs.Outputs.{to_product}
@@ -20,9 +20,9 @@ use Rattle.m11_link_laws.proofs.JoiningFindings.{defined_same, findings_same}
 -- each of these parts may come where it does, if the first one comes at this stage
 abbrev pub InOrder : Stage → List Part → Type 0
 InOrder stage [] = Unit {0}
-InOrder stage (part ∷ parts) = (may_stand part stage ≡ true) × InOrder (stage_from stage (part ∷ [])) parts
+InOrder stage (part ∷ parts) = (may_occur part stage ≡ true) × InOrder (stage_from stage (part ∷ [])) parts
 
-text_in_body : (stage : Stage) (address : ℕ) (bytes : List ℕ) → may_stand (Text address bytes) stage ≡ true
+text_in_body : (stage : Stage) (address : ℕ) (bytes : List ℕ) → may_occur (Text address bytes) stage ≡ true
     → stage ≡ InBody
 text_in_body InBody address bytes h = refl
 text_in_body stage address bytes h = absurd (false≢true h)

@@ -24,5 +24,5 @@ pub mod MovingShapes
 pub mod MovingWithin
 pub mod MovingBytes
 pub mod FrontFirst
-pub mod TablesKept
+pub mod TablesWithinLimits
 pub mod SectionsInModules

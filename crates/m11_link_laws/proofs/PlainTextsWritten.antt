@@ -16,7 +16,7 @@ use Rattle.m11_link_modules.specs.declared.stage.Stage.TheVariants.{Between, InD
 use Rattle.m11_link_modules.specs.Names.{is_among}
 use Rattle.m11_link_modules.specs.Parts.{Part, Directory, Entry, EndOfDirectory, Text, Relocations, Relocated, EndOfModule, EndOfFile}
 use Rattle.m11_link_modules.specs.Positions.{current_section, known_of, modules_in, stage_after, stage_from, this_module}
-use Rattle.m11_link_modules.specs.Rules.{defines, fault_known, fault_of, first_fault, may_stand}
+use Rattle.m11_link_modules.specs.Rules.{defines, fault_known, fault_of, first_fault, may_occur}
 use Rattle.m11_link_layout.specs.Modules.{reported_after}
 use Rattle.m11_link_layout.specs.Sections.{attributes_by}
 use Rattle.m11_base_writes.specs.declared.outputs.Output.TheVariants.{Product}
@@ -158,13 +158,13 @@ unchanged found text (part ∷ parts) e = refl
 -- ---- texts that have ended
 
 in_body : (stage : Stage) (address : ℕ) (bytes : List ℕ) (fault : Option ModuleFault)
-    → (if may_stand (Text address bytes) stage then fault else Some BadOrder) ≡ None → stage ≡ InBody
+    → (if may_occur (Text address bytes) stage then fault else Some BadOrder) ≡ None → stage ≡ InBody
 in_body Between address bytes fault e = absurd cc
 in_body InDirectory address bytes fault e = absurd cc
 in_body InBody address bytes fault e = refl
 
 at_end : (stage : Stage) (fault : Option ModuleFault)
-    → (if may_stand EndOfFile stage then fault else Some BadOrder) ≡ None → stage ≡ Between
+    → (if may_occur EndOfFile stage then fault else Some BadOrder) ≡ None → stage ≡ Between
 at_end Between fault e = refl
 at_end InDirectory fault e = absurd cc
 at_end InBody fault e = absurd cc

@@ -17,7 +17,7 @@ use Rattle.m11_link.specs.Outputs.{Gains, Stops, link}
 use Rattle.m11_base_writes.specs.Outputs.{Outputs, Write, files, flushes, to_product}
 use Rattle.m11_link.specs.SecondPass.{ReadsSecond, StopsLast, StopsWithin, begun_by}
 use Rattle.m11_link.specs.Written.{link_writes, parts_writes}
-use Rattle.m11_link.proofs.ItemsAccepted.{PartsOrFault, taken_after}
+use Rattle.m11_link.proofs.ItemsAccepted.{PartsOrFault, accepted_after}
 use Rattle.m11_link.proofs.Sole.{objects_same}
 use Rattle.m11_link.proofs.Steady.{block_steady, object_comes, objects_come}
 use Rattle.m11_link.proofs.WritesAfter.{parts_more}
@@ -112,7 +112,7 @@ failed_front text faults feeds feeds' sources items some are known f =
 more_parts : (items some more : List Item) (parts these : List Part) → items ≡ some ++ more
     → taken [] items ≡ Ok parts → taken [] some ≡ Ok these → parts ≡ these ++ items_parts more
 more_parts items some more parts these split e f =
-    parts_are these more parts (sym (taken_after [] some more these f) ∙ ap (taken []) (sym split) ∙ e)
+    parts_are these more parts (sym (accepted_after [] some more these f) ∙ ap (taken []) (sym split) ∙ e)
 
 abbrev Begins : List Write → List Write → Type 0
 Begins all some = (more : List Write) × (all ≡ some ++ more)

@@ -15,7 +15,7 @@ use Rattle.m11_link_modules.specs.Rules.{InLimits, fault_of, first_fault, most_m
 use Rattle.m11_link_modules.specs.Steps.{known_after, with_entry, with_optional_global}
 use Rattle.m11_link_modules.proofs.KnownAfter.{known_after_part}
 use Rattle.m11_link_layout.proofs.Walking.{head_none, rest_none}
-use Rattle.m11_link_laws.specs.Tables.{gathered_of}
+use Rattle.m11_link_laws.specs.Tables.{collected_of}
 use Rattle.m11_link_layout.specs.Plan.{IsPlanOf, PlanTables}
 use Rattle.m11_link_layout.proofs.TablesBounded.{in_all, no_less, tables_of, entered_few}
 
@@ -157,10 +157,10 @@ records_enter_few items n =
     (entered_few parts t.known) (λ e. ap length (records_enter items n e))
 
 pub records_contribute : (bottom : ℕ) (items : List Item) → first_fault [] (items_parts items) ≡ None
-    → length (gathered_of bottom (items_parts items)).contributions ≤ most_modules * most_sections
+    → length (collected_of bottom (items_parts items)).contributions ≤ most_modules * most_sections
 records_contribute bottom items n =
     let parts = items_parts items in
-    no_less (length (gathered_of bottom parts).contributions) (length (sections_in parts))
+    no_less (length (collected_of bottom parts).contributions) (length (sections_in parts))
     (most_modules * most_sections) (tables_of bottom parts n).contributions (records_enter_few items n)
 
 pub whole_plan_contributes : (bottom : ℕ) (items : List Item) (plan : PlanTables) → first_fault [] (items_parts items) ≡ None

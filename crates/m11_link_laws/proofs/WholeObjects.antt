@@ -8,7 +8,7 @@ use Rattle.m11_link_modules.specs.declared.fault.ModuleFault.{ModuleFault}
 use Rattle.m11_link_modules.specs.Parts.{Part, EndOfFile, parts_of}
 use Rattle.m11_link_modules.specs.Rules.{fault_of, first_fault}
 use Rattle.m11_link_layout.proofs.Standing.{sound_after}
-use Rattle.m11_link.specs.Objects.{◌>>=◌, AreItems, BlockOf, Item, ObjectEnds, ObjectItems, Refused, parts_or_fault, taken, taken_item, taken_parts, unless_fault}
+use Rattle.m11_link.specs.Objects.{◌>>=◌, AreItems, BlockOf, Item, ObjectEnds, ObjectItems, Refused, parts_or_fault, taken, accepted_item, accepted_parts, unless_fault}
 use Rattle.m11_link.specs.Objects as objects
 use Rattle.m11_link.proofs.ItemsAccepted.{PartsOrFault, bind_ok, bind_on, ends_again, ends_first}
 
@@ -24,7 +24,7 @@ unless_same : (broken : Option ModuleFault) (parts these : List Part) → unless
 unless_same None parts these e = cc
 unless_same (Some said) parts these e = absurd cc
 
-parts_sound : (before parts these : List Part) → first_fault [] before ≡ None → taken_parts before parts ≡ Ok these
+parts_sound : (before parts these : List Part) → first_fault [] before ≡ None → accepted_parts before parts ≡ Ok these
     → first_fault [] these ≡ None
 parts_sound before parts these sound e =
     let none = unless_none (first_fault before parts) (before ++ parts) these e in
@@ -33,13 +33,13 @@ parts_sound before parts these sound e =
     subst P same (sound_after [] before parts sound none)
 
 content_sound : (before : List Part) (content : Result Content RecordFault) (these : List Part)
-    → first_fault [] before ≡ None → (parts_or_fault content >>= taken_parts before) ≡ Ok these
+    → first_fault [] before ≡ None → (parts_or_fault content >>= accepted_parts before) ≡ Ok these
     → first_fault [] these ≡ None
 content_sound before (Ok content) these sound e = parts_sound before (parts_of content) these sound e
 content_sound before (Err inner) these sound e = absurd cc
 
 item_sound : (before : List Part) (item : Item) (these : List Part) → first_fault [] before ≡ None
-    → taken_item before item ≡ Ok these → first_fault [] these ≡ None
+    → accepted_item before item ≡ Ok these → first_fault [] these ≡ None
 item_sound before (BlockOf bytes) these sound e = content_sound before (content_of bytes) these sound e
 item_sound before ObjectEnds these sound e = parts_sound before (EndOfFile ∷ []) these sound e
 item_sound before (Refused refused) these sound e = absurd cc
@@ -52,7 +52,7 @@ items_sound : (before : List Part) (items : List Item) (parts : List Part) → f
 items_sound before [] parts sound e =
     let P : List Part → Type 0 = λ all. first_fault [] all ≡ None in subst P (same_parts before parts e) sound
 items_sound before (item ∷ items) parts sound e =
-    let first = bind_ok (taken_item before item) (λ these. taken these items) parts e in
+    let first = bind_ok (accepted_item before item) (λ these. taken these items) parts e in
     items_sound first.0 items parts (item_sound before item first.0 sound first.1) first.2
 
 nothing_sound : first_fault [] [] ≡ None
@@ -68,11 +68,11 @@ pub taken_both : (before : List Part) (xs ys : List Item) (parts : List Part) �
     → (middle : List Part) × (taken before xs ≡ Ok middle) × (taken middle ys ≡ Ok parts)
 taken_both before [] ys parts e = (before, refl, e)
 taken_both before (x ∷ xs) ys parts e =
-    let first = bind_ok (taken_item before x) (λ these. taken these (xs ++ ys)) parts e in
+    let first = bind_ok (accepted_item before x) (λ these. taken these (xs ++ ys)) parts e in
     let others = taken_both first.0 xs ys parts first.2 in
-    (others.0, bind_on (taken_item before x) (λ these. taken these xs) first.0 first.1 ∙ others.1, others.2)
+    (others.0, bind_on (accepted_item before x) (λ these. taken these xs) first.0 first.1 ∙ others.1, others.2)
 
-end_between : (before parts : List Part) → first_fault [] before ≡ None → taken_item before ObjectEnds ≡ Ok parts
+end_between : (before parts : List Part) → first_fault [] before ≡ None → accepted_item before ObjectEnds ≡ Ok parts
     → fault_of parts EndOfFile ≡ None
 end_between before parts sound e =
     let same = unless_same (first_fault before (EndOfFile ∷ [])) (before ++ EndOfFile ∷ []) parts e in
@@ -81,8 +81,8 @@ end_between before parts sound e =
     subst P same (ends_again before (sound_after [] before (EndOfFile ∷ []) sound none))
 
 no_refusal : (before : List Part) (item : Item) (items : List Item) (parts : List Part) → taken before (item ∷ items) ≡ Ok parts
-    → (first : List Part) × (taken_item before item ≡ Ok first) × (taken first items ≡ Ok parts)
-no_refusal before item items parts e = bind_ok (taken_item before item) (λ these. taken these items) parts e
+    → (first : List Part) × (accepted_item before item ≡ Ok first) × (taken first items ≡ Ok parts)
+no_refusal before item items parts e = bind_ok (accepted_item before item) (λ these. taken these items) parts e
 
 object_between : (room : ℕ) (bytes : List ℕ) (items : List Item) (before parts : List Part)
     → ObjectItems room bytes items → first_fault [] before ≡ None → taken before items ≡ Ok parts

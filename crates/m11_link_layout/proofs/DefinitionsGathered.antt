@@ -11,7 +11,7 @@ use Rattle.m11_link_modules.specs.Parts.{Part, Directory, Entry, EndOfDirectory,
 use Rattle.m11_link_modules.specs.Positions.{distinct, global_of, modules_in, this_module}
 use Rattle.m11_link_modules.specs.Rules.{defines}
 use Rattle.m11_obj.specs.Gsd.{has_bits}
-use Rattle.m11_link_layout.specs.Tables.{LayoutTables, gathered_after, nothing_gathered, with_definition, with_entry, with_first, with_reference, with_relocated, with_weak}
+use Rattle.m11_link_layout.specs.Tables.{LayoutTables, collected_after, nothing_collected, with_definition, with_entry, with_first, with_reference, with_relocated, with_weak}
 use Rattle.m11_link_layout.specs.Globals.{definition_by, definition_in, definitions_of, first_definition, last_section, location_of}
 use Rattle.m11_link_layout.specs.declared.definition.Definition.{Definition}
 use Rattle.std.specs.Option.{option_or}
@@ -121,8 +121,8 @@ relocated_definitions (Some name) g = refl
 
 reported_definitions : (bottom : ℕ) (before : List Part) (g : LayoutTables) (part : Part) → length g.names ≡ modules_in before
     → g.section ≡ last_section (this_module before)
-    → (gathered_after bottom g part).definitions ≡ with_first g.definitions (definition_in before part)
-unfolding gathered_after
+    → (collected_after bottom g part).definitions ≡ with_first g.definitions (definition_in before part)
+unfolding collected_after
 reported_definitions bottom before g Directory l s = refl
 reported_definitions bottom before g (Entry entry) l s =
     entry_definitions bottom entry.kind entry g
@@ -137,7 +137,7 @@ reported_definitions bottom before g EndOfFile l s = refl
 pub definitions_step : (bottom : ℕ) (before : List Part) (g : LayoutTables) (part : Part)
     → length g.names ≡ modules_in before
     → g.section ≡ last_section (this_module before) → DefinitionsOf before g.definitions
-    → DefinitionsOf (before ++ part ∷ []) (gathered_after bottom g part).definitions
+    → DefinitionsOf (before ++ part ∷ []) (collected_after bottom g part).definitions
 definitions_step bottom before g part l s d =
     let reported = reported_definitions bottom before g part l s in
     let more = definitions_more before part in
@@ -150,6 +150,6 @@ definitions_step bottom before g part l s d =
           ∙ ap (λ pairs. lookup (is_same_name name) pairs) (sym more);
     }
 
-pub definitions_none : DefinitionsOf [] nothing_gathered.definitions
+pub definitions_none : DefinitionsOf [] nothing_collected.definitions
 unfolding definitions_of distinct
 definitions_none = record { names = refl; found = λ name. refl }

@@ -8,15 +8,15 @@ use Rattle.m11_link_modules.specs.declared.stage.Stage.{Stage}
 use Rattle.m11_link_modules.specs.declared.stage.Stage.TheVariants.{Between, InDirectory, InBody}
 use Rattle.m11_link_modules.specs.Parts.{Part, EndOfFile}
 use Rattle.m11_link_modules.specs.Positions.{known_of}
-use Rattle.m11_link_modules.specs.Rules.{fault_known, fault_of, first_fault, may_stand}
-use Rattle.m11_link_layout.specs.Tables.{LayoutTables, gathered_after, gathered_after_all, nothing_gathered}
+use Rattle.m11_link_modules.specs.Rules.{fault_known, fault_of, first_fault, may_occur}
+use Rattle.m11_link_layout.specs.Tables.{LayoutTables, collected_after, collected_after_all, nothing_collected}
 use Rattle.m11_link_layout.specs.Plan.{LayoutEnds, IsPlan, PlacesAll, PlanTables, Plans, StopsAtSection, bases_onto}
 use Rattle.m11_link_layout.specs.Layout.{FirstFault, LayoutState, LayoutAfter}
 use Rattle.m11_link_layout.specs.declared.fault.LinkFault.{LinkFault}
 use Rattle.m11_link_layout.specs.declared.fault.LinkFault.TheVariants as fault
 use Rattle.m11_link_layout.proofs.PlansBounded.{plan_bounded, plan_grows}
 use Rattle.m11_link_layout.proofs.PlansOfParts.{plan_is, too_large_is}
-use Rattle.m11_link_layout.proofs.Standing.{gathered_append}
+use Rattle.m11_link_layout.proofs.Standing.{collected_append}
 use Rattle.m11_link_layout.proofs.Walking.{head_none, rest_none}
 
 -- ---- a plan that isn't made
@@ -66,10 +66,10 @@ rest_sound done (part ∷ before) e =
     subst P (sym first) (rest_sound (done ++ part ∷ []) before (rest_none (fault_of done part) rest e))
 
 nothing_more : (bottom : ℕ) (before : List Part)
-    → gathered_after_all bottom nothing_gathered (before ++ EndOfFile ∷ [])
-    ≡ gathered_after_all bottom nothing_gathered before
-unfolding gathered_after
-nothing_more bottom before = gathered_append bottom nothing_gathered before (EndOfFile ∷ [])
+    → collected_after_all bottom nothing_collected (before ++ EndOfFile ∷ [])
+    ≡ collected_after_all bottom nothing_collected before
+unfolding collected_after
+nothing_more bottom before = collected_append bottom nothing_collected before (EndOfFile ∷ [])
 
 planned : (bottom : ℕ) (before : List Part) (reading : LayoutState) (plan : PlanTables)
     → LayoutAfter bottom (before ++ EndOfFile ∷ []) reading
@@ -89,7 +89,7 @@ planned bottom before reading plan s h =
 
 too_large : (bottom : ℕ) (before : List Part) (reading : LayoutState) → LayoutAfter bottom (before ++ EndOfFile ∷ []) reading
     → bases_onto [] reading.bottom reading.gathered.sections ≡ None
-    → bases_onto [] bottom (gathered_after_all bottom nothing_gathered before).sections ≡ None
+    → bases_onto [] bottom (collected_after_all bottom nothing_collected before).sections ≡ None
 too_large bottom before reading s h =
     let P : LayoutTables → Type 0 = λ g. bases_onto [] bottom g.sections ≡ None in
     let S : ℕ → Type 0 = λ n. bases_onto [] n reading.gathered.sections ≡ None in
@@ -141,8 +141,8 @@ ended_seen {seen} bottom before reading result is s h =
 -- ---- an end inside a module
 
 inside : (stage : Stage) (said : ModuleFault) → option_or
-    (if may_stand EndOfFile stage then None else Some rule.BadOrder) None ≡ Some said
-    → (said ≡ rule.BadOrder) × ((if may_stand EndOfFile stage then None else Some rule.BadOrder) ≡ Some rule.BadOrder)
+    (if may_occur EndOfFile stage then None else Some rule.BadOrder) None ≡ Some said
+    → (said ≡ rule.BadOrder) × ((if may_occur EndOfFile stage then None else Some rule.BadOrder) ≡ Some rule.BadOrder)
 inside Between said e = search
 inside InDirectory said e = (search, refl)
 inside InBody said e = (search, refl)

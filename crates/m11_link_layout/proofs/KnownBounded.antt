@@ -20,7 +20,7 @@ use Rattle.m11_link_modules.specs.declared.stage.Stage.TheVariants.{Between, InD
 use Rattle.m11_link_modules.specs.Names.{is_among}
 use Rattle.m11_link_modules.specs.Parts.{Part, Directory, Entry, EndOfDirectory, Text, Relocations, Relocated, EndOfModule, EndOfFile}
 use Rattle.m11_link_modules.specs.Positions.{RulesState}
-use Rattle.m11_link_modules.specs.Rules.{InLimits, begin_fault, entering_fault, entry_fault, fault_known, first_there, global_fault, is_past, location_fault, may_stand, most_globals, most_modules, most_sections, relocation_by}
+use Rattle.m11_link_modules.specs.Rules.{InLimits, begin_fault, entering_fault, entry_fault, fault_known, first_there, global_fault, is_past, location_fault, may_occur, most_globals, most_modules, most_sections, relocation_by}
 use Rattle.m11_link_modules.specs.Steps.{known_after, with_entry, with_global, with_section, with_target}
 use Rattle.m11_link_layout.proofs.Finding.{Apart, apart_inserted}
 use Rattle.m11_link_layout.proofs.Walking.{rest_none}
@@ -146,14 +146,14 @@ one_more modules e =
     below f = grind (arith, nat_tests)
 
 directory_begins : (stage : Stage) (modules : ℕ)
-    → (if may_stand Directory stage then begin_fault stage modules else Some BadOrder) ≡ None → InLimits stage modules
+    → (if may_occur Directory stage then begin_fault stage modules else Some BadOrder) ≡ None → InLimits stage modules
     → modules < most_modules
 directory_begins Between modules e l = one_more modules e
 directory_begins InDirectory modules e l = l
 directory_begins InBody modules e l = l
 
 directory_ends : (stage : Stage) (modules : ℕ)
-    → (if may_stand EndOfDirectory stage then begin_fault stage modules else Some BadOrder) ≡ None
+    → (if may_occur EndOfDirectory stage then begin_fault stage modules else Some BadOrder) ≡ None
     → InLimits stage modules → modules < most_modules
 directory_ends Between modules e l = one_more modules e
 directory_ends InDirectory modules e l = l
@@ -162,7 +162,7 @@ directory_ends InBody modules e l = l
 some_fault : (fault : ModuleFault) → Some fault ≡ None → ⊥
 some_fault fault e = cc
 
-module_ends : (stage : Stage) (modules : ℕ) → (if may_stand EndOfModule stage then None else Some BadOrder) ≡ None
+module_ends : (stage : Stage) (modules : ℕ) → (if may_occur EndOfModule stage then None else Some BadOrder) ≡ None
     → InLimits stage modules → modules + 1 ≤ most_modules
 module_ends Between modules e l = absurd (some_fault BadOrder e)
 module_ends InDirectory modules e l = absurd (some_fault BadOrder e)

@@ -10,7 +10,7 @@ use Rattle.m11_obj.specs.declared.gsd.GsdKind.TheVariants.{ModuleName, ControlSe
 use Rattle.m11_link_modules.specs.Parts.{Part, Directory, Entry, EndOfDirectory, Text, Relocations, Relocated, EndOfModule, EndOfFile}
 use Rattle.m11_link_modules.specs.Positions.{ends_module, global_of, section_by, section_in, sections_in, this_module}
 use Rattle.m11_link_modules.proofs.KnownAfter.{this_module_ended, this_module_goes_on}
-use Rattle.m11_link_layout.specs.Tables.{LayoutTables, gathered_after, nothing_gathered, with_entry}
+use Rattle.m11_link_layout.specs.Tables.{LayoutTables, collected_after, nothing_collected, with_entry}
 use Rattle.m11_link_layout.specs.Globals.{last_of, last_section}
 use Rattle.m11_link_layout.proofs.Keeping.{relocated_keeps, symbol_keeps}
 
@@ -71,8 +71,8 @@ section_ended before = ap (λ parts. last_section parts) (sym (this_module_ended
 
 pub section_step : (bottom : ℕ) (before : List Part) (g : LayoutTables) (part : Part)
     → g.section ≡ last_section (this_module before)
-    → (gathered_after bottom g part).section ≡ last_section (this_module (before ++ part ∷ []))
-unfolding gathered_after
+    → (collected_after bottom g part).section ≡ last_section (this_module (before ++ part ∷ []))
+unfolding collected_after
 section_step bottom before g Directory is = section_kept before Directory g.section _ refl refl refl is
 section_step bottom before g (Entry entry) is = section_entry bottom before g entry.kind entry refl is
 section_step bottom before g EndOfDirectory is = section_kept before EndOfDirectory g.section _ refl refl refl is
@@ -85,6 +85,6 @@ section_step bottom before g (Relocated relocation) is =
 section_step bottom before g EndOfModule is = section_ended before
 section_step bottom before g EndOfFile is = section_kept before EndOfFile g.section _ refl refl refl is
 
-pub section_none : nothing_gathered.section ≡ last_section (this_module [])
+pub section_none : nothing_collected.section ≡ last_section (this_module [])
 unfolding last_section sections_in this_module
 section_none = refl

@@ -1,5 +1,5 @@
 pub mod BasesPlaced
-pub mod ContributionsGathered
+pub mod ContributionsCollected
 pub mod DefinitionsGathered
 pub mod Ending
 pub mod Evenness
@@ -23,7 +23,7 @@ pub mod PlansOfParts
 pub mod ReferenceSteps
 pub mod ReferencesGathered
 pub mod Reporting
-pub mod SectionsGathered
+pub mod SectionsCollected
 pub mod Sizing
 pub mod Standing
 pub mod TablesBounded

@@ -11,7 +11,7 @@ use Rattle.m11_obj.specs.declared.gsd.GsdKind.TheVariants.{ModuleName, ControlSe
 use Rattle.m11_link_modules.specs.Parts.{Part, Directory, Entry, EndOfDirectory, Text, Relocations, Relocated, EndOfModule, EndOfFile}
 use Rattle.m11_link_modules.specs.Positions.{ends_module, global_of, modules_in, this_module}
 use Rattle.m11_link_modules.proofs.KnownAfter.{this_module_ended, this_module_goes_on}
-use Rattle.m11_link_layout.specs.Tables.{LayoutTables, gathered_after, nothing_gathered, with_entry, with_relocated}
+use Rattle.m11_link_layout.specs.Tables.{LayoutTables, collected_after, nothing_collected, with_entry, with_relocated}
 use Rattle.m11_link_layout.specs.Modules.{first_of, module_at, module_name, name_at, name_by, name_in, name_reported}
 use Rattle.m11_link_layout.proofs.Keeping.{relocated_keeps, symbol_keeps}
 use Rattle.m11_link_layout.proofs.ModulesOfParts.{add_zero, one_ended, module_more, modules_are, modules_more, where_true}
@@ -149,8 +149,8 @@ entry_step bottom before g Identification entry z a n =
     kept before g (with_entry bottom Identification entry g) (Entry entry) refl z a refl n
 
 pub names_step : (bottom : ℕ) (before : List Part) (g : LayoutTables) (part : Part) → NamesOf before g.names g.name
-    → NamesOf (before ++ part ∷ []) (gathered_after bottom g part).names (gathered_after bottom g part).name
-unfolding gathered_after modules_in
+    → NamesOf (before ++ part ∷ []) (collected_after bottom g part).names (collected_after bottom g part).name
+unfolding collected_after modules_in
 names_step bottom before g Directory n = kept before g g Directory refl refl refl refl n
 names_step bottom before g (Entry entry) n = entry_step bottom before g entry.kind entry refl refl n
 names_step bottom before g EndOfDirectory n = kept before g g EndOfDirectory refl refl refl refl n
@@ -165,7 +165,7 @@ names_step bottom before g EndOfFile n = kept before g g EndOfFile refl refl ref
 below_none : (index : ℕ) → index < 0 → ⊥
 below_none index h = omega arith
 
-pub names_none : NamesOf [] nothing_gathered.names nothing_gathered.name
+pub names_none : NamesOf [] nothing_collected.names nothing_collected.name
 unfolding modules_in name_reported this_module
 names_none = record { count = refl; reported = refl; each = λ index h. absurd (below_none index h) }
 

@@ -16,9 +16,9 @@ use Rattle.m11_link_layout.specs.Modules.{modules_before}
 use Rattle.m11_link_layout.specs.Plan.{PlanTables, after_offset, planned_base}
 use Rattle.m11_link_layout.specs.Sections.{base_entered, contribution_base, ends_too_high, first_attributes, greatest, is_overlaid, is_relocatable, is_too_large, module_base, offset_after, rounded, section_base, section_size, size_under, sizes_of}
 use Rattle.m11_link_layout.specs.declared.definition.Total.{Total}
-use Rattle.m11_link_layout.proofs.ContributionsGathered.{ContributionsOf}
+use Rattle.m11_link_layout.proofs.ContributionsCollected.{ContributionsOf}
 use Rattle.m11_link_layout.proofs.Offsets.{earlier_sizes_more, enters_reported, entered_at, offset_from, offset_in, reported_where}
-use Rattle.m11_link_layout.proofs.SectionsGathered.{SectionsOf}
+use Rattle.m11_link_layout.proofs.SectionsCollected.{SectionsOf}
 use Rattle.m11_link_layout.proofs.Sizing.{attributes_found, sizes_more, total_from}
 use Rattle.m11_link_layout.proofs.Walking.{grown}
 

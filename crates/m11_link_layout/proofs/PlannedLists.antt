@@ -22,7 +22,7 @@ use Rattle.m11_link_layout.specs.declared.planned.PlannedSection.{PlannedSection
 use Rattle.m11_link_layout.proofs.DefinitionsGathered.{DefinitionsOf}
 use Rattle.m11_link_layout.proofs.Finding.{apart_distinct, Apart, each_reported, or_true}
 use Rattle.m11_link_layout.proofs.PlannedBases.{bases_of, found_mapped}
-use Rattle.m11_link_layout.proofs.SectionsGathered.{SectionsOf, sections_are}
+use Rattle.m11_link_layout.proofs.SectionsCollected.{SectionsOf, sections_are}
 use Rattle.m11_link_layout.proofs.Sizing.{attributes_found, total_from, total_in}
 
 -- ---- the item at an index

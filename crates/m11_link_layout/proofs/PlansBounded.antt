@@ -11,7 +11,7 @@ use Rattle.m11_link_layout.specs.declared.definition.Total.{Total}
 use Rattle.m11_link_layout.specs.Tables.{LayoutTables}
 use Rattle.m11_link_layout.proofs.KnownBounded.{modules_within}
 use Rattle.m11_link_layout.proofs.NamesReported.{weak_within}
-use Rattle.m11_link_layout.proofs.PlansOfParts.{Means, gathered_means}
+use Rattle.m11_link_layout.proofs.PlansOfParts.{Means, collected_means}
 use Rattle.m11_link_layout.proofs.TablesBounded.{Tables, entered_few, few_weak, in_all, keys_counted, more_modules, no_less, one_entry, tables_of}
 
 abbrev Entries : Type 0
@@ -90,7 +90,7 @@ gathered_kept : (bottom : ℕ) (parts : List Part) (plan : PlanTables) → first
     → IsPlan bottom parts plan → Tables parts plan.gathered × Means bottom parts plan.gathered
 gathered_kept bottom parts plan n p =
     let P : LayoutTables → Type 0 = λ g. Tables parts g × Means bottom parts g in
-    subst P (sym p.gathered) (tables_of bottom parts n, gathered_means bottom parts n)
+    subst P (sym p.gathered) (tables_of bottom parts n, collected_means bottom parts n)
 
 pub plan_grows : (bottom : ℕ) (parts : List Part) (plan : PlanTables) → first_fault [] parts ≡ None
     → IsPlan bottom parts plan → TablesGrow parts plan

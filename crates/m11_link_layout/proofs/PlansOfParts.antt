@@ -5,7 +5,7 @@ use Rattle.m11_base.specs.Rad50.{is_same_name}
 use Rattle.m11_link_modules.specs.Parts.{Part}
 use Rattle.m11_link_modules.specs.Positions.{known_of, section_names, this_module}
 use Rattle.m11_link_modules.specs.Rules.{fault_of, first_fault}
-use Rattle.m11_link_layout.specs.Tables.{LayoutTables, gathered_after, gathered_after_all, nothing_gathered}
+use Rattle.m11_link_layout.specs.Tables.{LayoutTables, collected_after, collected_after_all, nothing_collected}
 use Rattle.m11_link_layout.specs.Globals.{definition_value, first_definition, global_value, last_section, location_value}
 use Rattle.m11_link_layout.specs.Modules.{name_at}
 use Rattle.m11_link_layout.specs.Plan.{Bases, IsPlan, IsPlanOf, PlanTables, TablesBounded, TablesGrow, bases_onto, defined_value, planned_base, planned_module, planned_value, value_at}
@@ -15,7 +15,7 @@ use Rattle.m11_link_layout.specs.declared.definition.GlobalLocation.{GlobalLocat
 use Rattle.m11_link_layout.specs.declared.definition.GlobalLocation.TheVariants.{Absolute, In}
 use Rattle.m11_link_layout.specs.declared.definition.Total.{Total}
 use Rattle.m11_link_layout.proofs.BasesPlaced.{bases_placed}
-use Rattle.m11_link_layout.proofs.ContributionsGathered.{ContributionsOf, contributions_none, contributions_step}
+use Rattle.m11_link_layout.proofs.ContributionsCollected.{ContributionsOf, contributions_none, contributions_step}
 use Rattle.m11_link_layout.proofs.DefinitionsGathered.{DefinitionsOf, definitions_none, definitions_step}
 use Rattle.m11_link_layout.proofs.LastSections.{section_none, section_step}
 use Rattle.m11_link_layout.proofs.Finding.{Apart}
@@ -23,7 +23,7 @@ use Rattle.m11_link_layout.proofs.NamesGathered.{NamesOf, names_are, names_none,
 use Rattle.m11_link_layout.proofs.PlannedBases.{base_planned, bases_of}
 use Rattle.m11_link_layout.proofs.PlannedLists.{attributes_are, globals_listed, sections_listed}
 use Rattle.m11_link_layout.proofs.ReferenceSteps.{ReferencesOf, references_are, references_none, references_step}
-use Rattle.m11_link_layout.proofs.SectionsGathered.{SectionsOf, sections_are, sections_none, sections_step}
+use Rattle.m11_link_layout.proofs.SectionsCollected.{SectionsOf, sections_are, sections_none, sections_step}
 use Rattle.m11_link_layout.proofs.TransferPlanned.{TransfersIn, transfer_planned, transfers_none, transfers_step}
 use Rattle.m11_link_layout.proofs.Walking.{walked}
 
@@ -40,7 +40,7 @@ pub record Means (bottom : ℕ) (before : List Part) (g : LayoutTables) : Type 0
 
 means_step : (bottom : ℕ) (before : List Part) (g : LayoutTables) (part : Part) → fault_of before part ≡ None
     → Means bottom before g
-    → Means bottom (before ++ part ∷ []) (gathered_after bottom g part)
+    → Means bottom (before ++ part ∷ []) (collected_after bottom g part)
 means_step bottom before g part n m = record {
   sections = sections_step bottom before g part n m.sections;
   contributions = contributions_step bottom before g part n m.names.count m.sections m.contributions;
@@ -51,7 +51,7 @@ means_step bottom before g part n m = record {
   references = references_step bottom before g part m.references;
 }
 
-means_none : (bottom : ℕ) → Means bottom [] nothing_gathered
+means_none : (bottom : ℕ) → Means bottom [] nothing_collected
 means_none bottom = record {
   sections = sections_none;
   contributions = contributions_none;
@@ -62,10 +62,10 @@ means_none bottom = record {
   references = references_none;
 }
 
-pub gathered_means : (bottom : ℕ) (parts : List Part) → first_fault [] parts ≡ None
-    → Means bottom parts (gathered_after_all bottom nothing_gathered parts)
-gathered_means bottom parts n =
-    walked bottom (Means bottom) (means_step bottom) [] parts nothing_gathered n (means_none bottom)
+pub collected_means : (bottom : ℕ) (parts : List Part) → first_fault [] parts ≡ None
+    → Means bottom parts (collected_after_all bottom nothing_collected parts)
+collected_means bottom parts n =
+    walked bottom (Means bottom) (means_step bottom) [] parts nothing_collected n (means_none bottom)
 
 -- ---- bases
 
@@ -92,11 +92,11 @@ nowhere true result e = refl
 nowhere false result e = search
 
 pub too_large_is : (bottom : ℕ) (parts : List Part) → first_fault [] parts ≡ None
-    → bases_onto [] bottom (gathered_after_all bottom nothing_gathered parts).sections ≡ None
+    → bases_onto [] bottom (collected_after_all bottom nothing_collected parts).sections ≡ None
     → is_too_large bottom parts ≡ true
 too_large_is bottom parts n e =
     nowhere (is_too_large bottom parts) (bases_reported bottom parts)
-    (sym (bases_are bottom parts _ (gathered_means bottom parts n).sections) ∙ e)
+    (sym (bases_are bottom parts _ (collected_means bottom parts n).sections) ∙ e)
 
 -- ---- values
 
@@ -128,7 +128,7 @@ pub plan_is : (bottom : ℕ) (parts : List Part) (plan : PlanTables) → first_f
     → IsPlan bottom parts plan → TablesGrow parts plan → TablesBounded plan → IsPlanOf bottom parts plan
 plan_is bottom parts plan n is grow bounded =
     let P : LayoutTables → Type 0 = λ g. Means bottom parts g in
-    let means = subst P (sym is.gathered) (gathered_means bottom parts n) in
+    let means = subst P (sym is.gathered) (collected_means bottom parts n) in
     let reported : Bases = record { bases = plan.bases; top = plan.top } in
     let placed = there (is_too_large bottom parts) reported (bases_reported bottom parts)
     (sym (bases_are bottom parts plan.gathered.sections means.sections) ∙ is.bases) in

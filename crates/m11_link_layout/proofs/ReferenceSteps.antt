@@ -18,7 +18,7 @@ use Rattle.m11_link_modules.specs.Positions.{ends_module, global_of, this_module
 use Rattle.m11_link_modules.specs.Rules.{defines}
 use Rattle.m11_obj.specs.Gsd.{has_bits}
 use Rattle.m11_link_modules.proofs.KnownAfter.{this_module_ended, this_module_goes_on}
-use Rattle.m11_link_layout.specs.Tables.{LayoutTables, gathered_after, nothing_gathered, with_definition, with_entry, with_reference, with_relocated, with_weak}
+use Rattle.m11_link_layout.specs.Tables.{LayoutTables, collected_after, nothing_collected, with_definition, with_entry, with_reference, with_relocated, with_weak}
 use Rattle.m11_link_layout.specs.Globals.{reference_by, reference_in, references_of, referred, relocated_reference, weak_by, weak_in, weak_names}
 use Rattle.m11_link_layout.proofs.ReferencesGathered.{TableOf, none_referred, one_referred, references_more, table_is}
 
@@ -162,8 +162,8 @@ relocated_step before g part (Some name) e r n t = record {
 
 pub references_step : (bottom : ℕ) (before : List Part) (g : LayoutTables) (part : Part)
     → ReferencesOf before g.references g.weak
-    → ReferencesOf (before ++ part ∷ []) (gathered_after bottom g part).references (gathered_after bottom g part).weak
-unfolding gathered_after
+    → ReferencesOf (before ++ part ∷ []) (collected_after bottom g part).references (collected_after bottom g part).weak
+unfolding collected_after
 references_step bottom before g Directory t = kept before g Directory None refl refl refl refl t
 references_step bottom before g (Entry entry) t = entry_step bottom before g entry.kind entry refl refl t
 references_step bottom before g EndOfDirectory t = kept before g EndOfDirectory None refl refl refl refl t
@@ -175,7 +175,7 @@ references_step bottom before g EndOfModule t =
     record { table = table_kept before EndOfModule g.references refl t.table; weak_is = weak_ended before }
 references_step bottom before g EndOfFile t = kept before g EndOfFile None refl refl refl refl t
 
-pub references_none : ReferencesOf [] nothing_gathered.references nothing_gathered.weak
+pub references_none : ReferencesOf [] nothing_collected.references nothing_collected.weak
 unfolding references_of weak_names this_module
 references_none = record { table = none_referred; weak_is = λ name. refl }
 

@@ -6,20 +6,20 @@ use Rattle.m11_obj.specs.declared.fault.RecordFault.{RecordFault}
 use Rattle.m11_obj.specs.declared.gsd.GsdEntry.{GsdEntry}
 use Rattle.m11_link_modules.specs.declared.fault.ModuleFault.{ModuleFault}
 use Rattle.m11_link_modules.specs.declared.fault.ModuleFault.TheVariants as rule
-use Rattle.m11_link_modules.proofs.KnownAfter.{taken_after}
+use Rattle.m11_link_modules.proofs.KnownAfter.{accepted_after}
 use Rattle.m11_link_modules.specs.Grammar.{directory_parts}
 use Rattle.m11_link_modules.specs.Laws.{AcceptsAfter}
 use Rattle.m11_link_modules.specs.Parts.{Part, Entry, EndOfDirectory, EndOfFile, EndOfModule, Text, record_parts}
 use Rattle.m11_link_modules.specs.Positions.{RulesState, known_of}
 use Rattle.m11_link_modules.specs.Rules.{fault_of, first_fault}
-use Rattle.m11_link_modules.specs.Steps.{RulesTake}
+use Rattle.m11_link_modules.specs.Steps.{RulesAccept}
 use Rattle.m11_link_layout.specs.Fault.{of_module}
-use Rattle.m11_link_layout.specs.Tables.{LayoutTables, gathered_after, gathered_after_all, nothing_gathered, with_end}
+use Rattle.m11_link_layout.specs.Tables.{LayoutTables, collected_after, collected_after_all, nothing_collected, with_end}
 use Rattle.m11_link_layout.specs.Layout.{FirstFault, LayoutState, LayoutAfter, AcceptsBlock, AcceptsParts}
 use Rattle.m11_link_layout.specs.declared.fault.LinkFault.{LinkFault}
 use Rattle.m11_link_layout.specs.declared.fault.LinkFault.TheVariants.{NoMemory, Record}
 
-pub begins : (bottom : ℕ) (reading : LayoutState) → reading.known ≡ known_of [] → reading.gathered ≡ nothing_gathered
+pub begins : (bottom : ℕ) (reading : LayoutState) → reading.known ≡ known_of [] → reading.gathered ≡ nothing_collected
     → reading.bottom ≡ bottom → reading.fault ≡ None → LayoutAfter bottom [] reading
 unfolding first_fault
 begins bottom reading k g b f = record { sound = refl; known = k; gathered = g; bottom_is = b; fault = f }
@@ -45,26 +45,26 @@ sound_after done (part ∷ before) parts e f =
     joined_none (fault_of done part) (first_fault (done ++ part ∷ []) (before ++ parts)) n.0
     (sound_after (done ++ part ∷ []) before parts n.1 (subst P (sym (append_snoc done part before)) f))
 
-pub gathered_append : (bottom : ℕ) (g : LayoutTables) (before parts : List Part)
-    → gathered_after_all bottom g (before ++ parts)
-    ≡ gathered_after_all bottom (gathered_after_all bottom g before) parts
-gathered_append bottom g [] parts = refl
-gathered_append bottom g (part ∷ before) parts = gathered_append bottom (gathered_after bottom g part) before parts
+pub collected_append : (bottom : ℕ) (g : LayoutTables) (before parts : List Part)
+    → collected_after_all bottom g (before ++ parts)
+    ≡ collected_after_all bottom (collected_after_all bottom g before) parts
+collected_append bottom g [] parts = refl
+collected_append bottom g (part ∷ before) parts = collected_append bottom (collected_after bottom g part) before parts
 
 -- if further parts were accepted and stored, the layout is in the state after all parts
 pub goes_on : (bottom : ℕ) (before parts : List Part) (old new : LayoutState) → LayoutAfter bottom before old
-    → AcceptsAfter before new.known parts (Ok tt) → new.gathered ≡ gathered_after_all old.bottom old.gathered parts
+    → AcceptsAfter before new.known parts (Ok tt) → new.gathered ≡ collected_after_all old.bottom old.gathered parts
     → new.bottom ≡ old.bottom → new.fault ≡ old.fault → LayoutAfter bottom (before ++ parts) new
 goes_on bottom before parts old new s t g b f =
-    let P : ℕ → Type 0 = λ n. new.gathered ≡ gathered_after_all n old.gathered parts in
-    let Q : LayoutTables → Type 0 = λ h. new.gathered ≡ gathered_after_all bottom h parts in
+    let P : ℕ → Type 0 = λ n. new.gathered ≡ collected_after_all n old.gathered parts in
+    let Q : LayoutTables → Type 0 = λ h. new.gathered ≡ collected_after_all bottom h parts in
     let R : LayoutTables → Type 0 = λ h. new.gathered ≡ h in
     let S : ℕ → Type 0 = λ n. new.bottom ≡ n in
     let T : Option LinkFault → Type 0 = λ o. new.fault ≡ o in
     record {
       sound = sound_after [] before parts s.sound t.0;
       known = t.1;
-      gathered = subst R (sym (gathered_append bottom nothing_gathered before parts))
+      gathered = subst R (sym (collected_append bottom nothing_collected before parts))
           (subst Q s.gathered (subst P s.bottom_is g));
       bottom_is = subst S s.bottom_is b;
       fault = subst T s.fault f;
@@ -74,7 +74,7 @@ goes_on bottom before parts old new s t g b f =
 pub parts_taken : {seen new : LayoutState} (bottom : ℕ) (before parts : List Part) (old : LayoutState) → seen ≡ old
     → LayoutAfter bottom before old
     → (seen.known ≡ known_of before → AcceptsAfter before new.known parts (Ok tt))
-    → new.gathered ≡ gathered_after_all seen.bottom seen.gathered parts
+    → new.gathered ≡ collected_after_all seen.bottom seen.gathered parts
     → new.bottom ≡ seen.bottom → new.fault ≡ seen.fault → LayoutAfter bottom (before ++ parts) new
 parts_taken {seen} {new} bottom before parts old is s t g b f =
     let P : LayoutState → Type 0 = λ reading. LayoutAfter bottom before reading in
@@ -83,28 +83,28 @@ parts_taken {seen} {new} bottom before parts old is s t g b f =
 
 -- a fault that is found from what is known before some parts is their first fault
 pub fault_found : (before parts : List Part) (old new : RulesState) (broken : ModuleFault) → old ≡ known_of before
-    → RulesTake old new parts (Err broken) → FirstFault before parts (of_module broken)
-fault_found before parts old new rule.NoMemory is h = inl (taken_after before old new parts (Err rule.NoMemory) is h)
+    → RulesAccept old new parts (Err broken) → FirstFault before parts (of_module broken)
+fault_found before parts old new rule.NoMemory is h = inl (accepted_after before old new parts (Err rule.NoMemory) is h)
 fault_found before parts old new rule.BadOrder is h =
-    (rule.BadOrder, taken_after before old new parts (Err rule.BadOrder) is h, refl)
+    (rule.BadOrder, accepted_after before old new parts (Err rule.BadOrder) is h, refl)
 fault_found before parts old new rule.NoText is h =
-    (rule.NoText, taken_after before old new parts (Err rule.NoText) is h, refl)
+    (rule.NoText, accepted_after before old new parts (Err rule.NoText) is h, refl)
 fault_found before parts old new rule.BadDisplacement is h =
-    (rule.BadDisplacement, taken_after before old new parts (Err rule.BadDisplacement) is h, refl)
+    (rule.BadDisplacement, accepted_after before old new parts (Err rule.BadDisplacement) is h, refl)
 fault_found before parts old new rule.UnknownSection is h =
-    (rule.UnknownSection, taken_after before old new parts (Err rule.UnknownSection) is h, refl)
+    (rule.UnknownSection, accepted_after before old new parts (Err rule.UnknownSection) is h, refl)
 fault_found before parts old new rule.TextOutside is h =
-    (rule.TextOutside, taken_after before old new parts (Err rule.TextOutside) is h, refl)
+    (rule.TextOutside, accepted_after before old new parts (Err rule.TextOutside) is h, refl)
 fault_found before parts old new rule.TooManyGlobals is h =
-    (rule.TooManyGlobals, taken_after before old new parts (Err rule.TooManyGlobals) is h, refl)
+    (rule.TooManyGlobals, accepted_after before old new parts (Err rule.TooManyGlobals) is h, refl)
 fault_found before parts old new rule.TooManySections is h =
-    (rule.TooManySections, taken_after before old new parts (Err rule.TooManySections) is h, refl)
+    (rule.TooManySections, accepted_after before old new parts (Err rule.TooManySections) is h, refl)
 fault_found before parts old new rule.TooManyModules is h =
-    (rule.TooManyModules, taken_after before old new parts (Err rule.TooManyModules) is h, refl)
+    (rule.TooManyModules, accepted_after before old new parts (Err rule.TooManyModules) is h, refl)
 
 pub fault_reported : (before parts : List Part) (old new : RulesState) (broken : ModuleFault) (state : LayoutState) (bottom : ℕ)
     (result : Result (Unit {0}) LinkFault) → old ≡ known_of before
-    → RulesTake old new parts (Err broken) → IsErrAnd result (λ e. e ≡ of_module broken)
+    → RulesAccept old new parts (Err broken) → IsErrAnd result (λ e. e ≡ of_module broken)
     → AcceptsParts bottom before state parts result
 fault_reported before parts old new broken state bottom (Ok done) is h e = absurd e
 fault_reported before parts old new broken state bottom (Err stopped) is h e =
@@ -114,12 +114,12 @@ fault_reported before parts old new broken state bottom (Err stopped) is h e =
 -- if parts have no fault, and memory is refused for the tables, this is a result of accepting them
 pub memory_refused : {seen : LayoutState} (bottom : ℕ) (before parts : List Part) (old state : LayoutState) (new : RulesState)
     (result : Result (Unit {0}) LinkFault) → seen ≡ old → LayoutAfter bottom before old
-    → RulesTake seen.known new parts (Ok tt) → IsErrAnd result (λ e. e ≡ NoMemory) → AcceptsParts bottom before state parts result
+    → RulesAccept seen.known new parts (Ok tt) → IsErrAnd result (λ e. e ≡ NoMemory) → AcceptsParts bottom before state parts result
 memory_refused {seen} bottom before parts old state new (Ok done) is s h e = absurd e
 memory_refused {seen} bottom before parts old state new (Err stopped) is s h e =
     let k = ap (λ (l : LayoutState). l.known) is ∙ s.known in
     let P : LinkFault → Type 0 = λ said. FirstFault before parts said in
-    subst P (sym e) (inr (taken_after before seen.known new parts (Ok tt) k h).0)
+    subst P (sym e) (inr (accepted_after before seen.known new parts (Ok tt) k h).0)
 
 -- ---- a block
 
@@ -151,31 +151,31 @@ block_taken bottom before parts new bytes result e h =
 
 -- a text changes no table
 pub text_noted : (bottom address : ℕ) (bytes : List ℕ) (g : LayoutTables)
-    → g ≡ gathered_after_all bottom g (Text address bytes ∷ [])
-unfolding gathered_after
+    → g ≡ collected_after_all bottom g (Text address bytes ∷ [])
+unfolding collected_after
 text_noted bottom address bytes g = refl
 
 -- the end of a directory changes no table
-pub end_of_directory_noted : (bottom : ℕ) (g : LayoutTables) → g ≡ gathered_after_all bottom g (EndOfDirectory ∷ [])
-unfolding gathered_after
+pub end_of_directory_noted : (bottom : ℕ) (g : LayoutTables) → g ≡ collected_after_all bottom g (EndOfDirectory ∷ [])
+unfolding collected_after
 end_of_directory_noted bottom g = refl
 
 -- ending a module in the tables is their step for its end
 pub end_of_module_noted : (bottom : ℕ) (g later : LayoutTables) → later ≡ with_end g
-    → later ≡ gathered_after_all bottom g (EndOfModule ∷ [])
-unfolding gathered_after
+    → later ≡ collected_after_all bottom g (EndOfModule ∷ [])
+unfolding collected_after
 end_of_module_noted bottom g later e = e
 
 -- storing the entries of a directory record is the step of the tables for its parts
 pub directory_noted : (bottom : ℕ) (entries : List GsdEntry) (g later : LayoutTables)
-    → later ≡ gathered_after_all bottom g (map (λ entry. Entry entry) entries)
-    → later ≡ gathered_after_all bottom g (directory_parts entries)
-unfolding gathered_after
+    → later ≡ collected_after_all bottom g (map (λ entry. Entry entry) entries)
+    → later ≡ collected_after_all bottom g (directory_parts entries)
+unfolding collected_after
 directory_noted bottom entries g later e = e
 
 -- the end of a file changes no table
-nothing_noted : (bottom : ℕ) (g : LayoutTables) → g ≡ gathered_after_all bottom g (EndOfFile ∷ [])
-unfolding gathered_after
+nothing_noted : (bottom : ℕ) (g : LayoutTables) → g ≡ collected_after_all bottom g (EndOfFile ∷ [])
+unfolding collected_after
 nothing_noted bottom g = refl
 
 pub end_taken : {seen new : LayoutState} (bottom : ℕ) (before : List Part) (old : LayoutState) → seen ≡ old

@@ -17,7 +17,7 @@ use Rattle.m11_link_modules.specs.Positions.{RulesState, distinct, ends_module, 
 use Rattle.m11_link_modules.specs.Rules.{defines, fault_of, first_fault}
 use Rattle.m11_obj.specs.Gsd.{has_bits}
 use Rattle.m11_link_modules.proofs.KnownAfter.{known_after_part, this_module_goes_on}
-use Rattle.m11_link_layout.specs.Tables.{LayoutTables, gathered_after, gathered_after_all, is_contribution, nothing_gathered, with_definition, with_entry, with_reference, with_relocated, with_weak}
+use Rattle.m11_link_layout.specs.Tables.{LayoutTables, collected_after, collected_after_all, is_contribution, nothing_collected, with_definition, with_entry, with_reference, with_relocated, with_weak}
 use Rattle.m11_link_layout.proofs.Finding.{Apart, apart_inserted}
 use Rattle.m11_link_layout.proofs.Keeping.{relocated_keeps, symbol_keeps}
 use Rattle.m11_link_layout.proofs.ModulesOfParts.{modules_more, one_ended}
@@ -66,9 +66,9 @@ entry_contributes bottom GlobalSymbol entry g =
 entry_contributes bottom Identification entry g = left_alone g.contributions _ [] refl
 
 contributes : (bottom : ℕ) (g : LayoutTables) (part : Part)
-    → length (gathered_after bottom g part).contributions
+    → length (collected_after bottom g part).contributions
     ≤ length g.contributions + length (filter_map section_in (part ∷ []))
-unfolding gathered_after
+unfolding collected_after
 contributes bottom g Directory = left_alone g.contributions _ [] refl
 contributes bottom g (Entry entry) = entry_contributes bottom entry.kind entry g
 contributes bottom g EndOfDirectory = left_alone g.contributions _ [] refl
@@ -215,8 +215,8 @@ relocated_once : (global : Option (ℕ × ℕ)) (g : LayoutTables) → Once g �
 relocated_once None g d = d
 relocated_once (Some name) g d = d
 
-once_step : (bottom : ℕ) (g : LayoutTables) (part : Part) → Once g → Once (gathered_after bottom g part)
-unfolding gathered_after
+once_step : (bottom : ℕ) (g : LayoutTables) (part : Part) → Once g → Once (collected_after bottom g part)
+unfolding collected_after
 once_step bottom g Directory d = d
 once_step bottom g (Entry entry) d = entry_once bottom entry.kind entry g d
 once_step bottom g EndOfDirectory d = d
@@ -239,7 +239,7 @@ one_part : (old new sections sections' more : ℕ) → new ≤ old + more → se
 one_part old new sections sections' more n s h = omega (arith, n, s, h)
 
 tables_step : (bottom : ℕ) (before : List Part) (g : LayoutTables) (part : Part) → fault_of before part ≡ None
-    → Tables before g → Tables (before ++ part ∷ []) (gathered_after bottom g part)
+    → Tables before g → Tables (before ++ part ∷ []) (collected_after bottom g part)
 tables_step bottom before g part n t =
     let P : RulesState → Type 0 = λ known. Bounded known in
     record {
@@ -254,7 +254,7 @@ tables_step bottom before g part n t =
 none_at_most : (n : ℕ) → 0 ≤ n
 none_at_most n = omega arith
 
-tables_none : Tables [] nothing_gathered
+tables_none : Tables [] nothing_collected
 unfolding known_of stage_after modules_in section_names sections_in global_names distinct this_module
 tables_none = record {
   known = record {
@@ -269,8 +269,8 @@ tables_none = record {
   entered = none_at_most 0;
 }
 
-pub tables_of : (bottom : ℕ) (parts : List Part) → first_fault [] parts ≡ None → Tables parts (gathered_after_all bottom nothing_gathered parts)
-tables_of bottom parts n = walked bottom Tables (tables_step bottom) [] parts nothing_gathered n tables_none
+pub tables_of : (bottom : ℕ) (parts : List Part) → first_fault [] parts ≡ None → Tables parts (collected_after_all bottom nothing_collected parts)
+tables_of bottom parts n = walked bottom Tables (tables_step bottom) [] parts nothing_collected n tables_none
 
 -- ---- each table by its names
 

@@ -12,18 +12,18 @@ use Rattle.m11_link_modules.specs.declared.fault.ModuleFault.TheVariants.{Unknow
 use Rattle.m11_link_modules.specs.Parts.{Part, Directory, Entry, EndOfDirectory, Text, Relocations, Relocated, EndOfModule, EndOfFile}
 use Rattle.m11_link_modules.specs.Positions.{global_of, known_of, modules_in, sections_in, this_module}
 use Rattle.m11_link_modules.specs.Rules.{entry_fault, fault_of, first_there}
-use Rattle.m11_link_layout.specs.Tables.{LayoutTables, gathered_after, is_even_after, nothing_gathered, with_entry, with_relocated}
+use Rattle.m11_link_layout.specs.Tables.{LayoutTables, collected_after, is_even_after, nothing_collected, with_entry, with_relocated}
 use Rattle.m11_link_layout.specs.Plan.{PlanTables, planned_base, planned_transfer, transfer_at}
 use Rattle.m11_link_layout.specs.Sections.{module_base}
 use Rattle.m11_link_layout.specs.Transfers.{is_even, transfer_address, transfer_by, transfer_in, transfer_value, transfers_of}
 use Rattle.m11_link_layout.specs.declared.definition.Transfer.{Transfer}
-use Rattle.m11_link_layout.proofs.ContributionsGathered.{ContributionsOf, no_fault}
+use Rattle.m11_link_layout.proofs.ContributionsCollected.{ContributionsOf, no_fault}
 use Rattle.m11_link_layout.proofs.Evenness.{even_is, relocated_at}
 use Rattle.m11_link_layout.proofs.FirstEven.{find_same}
 use Rattle.m11_link_layout.proofs.Keeping.{relocated_keeps, symbol_keeps}
 use Rattle.m11_link_layout.proofs.ModulesOfParts.{add_zero, modules_are, modules_more}
 use Rattle.m11_link_layout.proofs.Offsets.{entered_at}
-use Rattle.m11_link_layout.proofs.SectionsGathered.{SectionsOf}
+use Rattle.m11_link_layout.proofs.SectionsCollected.{SectionsOf}
 use Rattle.m11_link_layout.proofs.TransferSteps.{settled_is, transfer_entered, transfers_ended}
 use Rattle.m11_link_layout.proofs.TransfersGathered.{TransfersOf, possible_before, transfers_kept}
 
@@ -92,8 +92,8 @@ entry_step bottom before g Identification entry z e n l s c t = kept bottom befo
 
 pub transfers_step : (bottom : ℕ) (before : List Part) (g : LayoutTables) (part : Part) → fault_of before part ≡ None
     → length g.names ≡ modules_in before → SectionsOf before g.sections → ContributionsOf before g.contributions
-    → TransfersIn bottom before g → TransfersIn bottom (before ++ part ∷ []) (gathered_after bottom g part)
-unfolding gathered_after modules_in
+    → TransfersIn bottom before g → TransfersIn bottom (before ++ part ∷ []) (collected_after bottom g part)
+unfolding collected_after modules_in
 transfers_step bottom before g Directory n l s c t = kept bottom before g g Directory refl refl refl t
 transfers_step bottom before g (Entry entry) n l s c t =
     entry_step bottom before g entry.kind entry refl refl (no_fault before entry n) l s c t
@@ -111,7 +111,7 @@ none_in : (assumed : Bool) (one : Option Transfer) → (if assumed then one else
 none_in true one = refl
 none_in false one = refl
 
-pub transfers_none : (bottom : ℕ) → TransfersIn bottom [] nothing_gathered
+pub transfers_none : (bottom : ℕ) → TransfersIn bottom [] nothing_collected
 unfolding transfers_of
 transfers_none bottom = record { known = tt; first = λ assumed possible. none_in assumed None }
 

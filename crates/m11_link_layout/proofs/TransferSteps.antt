@@ -12,11 +12,11 @@ use Rattle.m11_link_layout.specs.Tables.{LayoutTables, entered_total, is_even_af
 use Rattle.m11_link_layout.specs.Sections.{first_attributes, is_relocatable}
 use Rattle.m11_link_layout.specs.Transfers.{transfer_in, transfers_of}
 use Rattle.m11_link_layout.specs.declared.definition.Transfer.{Transfer}
-use Rattle.m11_link_layout.proofs.ContributionsGathered.{ContributionsOf}
+use Rattle.m11_link_layout.proofs.ContributionsCollected.{ContributionsOf}
 use Rattle.m11_link_layout.proofs.Evenness.{relocated_at}
 use Rattle.m11_link_layout.proofs.FirstEven.{all_known, find_more, find_same, known_below, known_ended, known_goes_on, one_known, transfers_more}
 use Rattle.m11_link_layout.proofs.Offsets.{entered_at}
-use Rattle.m11_link_layout.proofs.SectionsGathered.{SectionsOf}
+use Rattle.m11_link_layout.proofs.SectionsCollected.{SectionsOf}
 use Rattle.m11_link_layout.proofs.TransfersGathered.{Possible, TransfersOf, earlier_first, even_under, no_transfer, relocated_is, slot, this_under}
 use Rattle.m11_link_layout.proofs.TransfersKnown.{AllKnown, ended_relocated, known_at, relocated_under}
 use Rattle.m11_link_layout.proofs.ModulesOfParts.{itself}

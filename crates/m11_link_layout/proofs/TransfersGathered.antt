@@ -12,11 +12,11 @@ use Rattle.m11_link_layout.specs.Tables.{LayoutTables, entered_total, is_contrib
 use Rattle.m11_link_layout.specs.Sections.{first_attributes, is_relocatable, sizes_of}
 use Rattle.m11_link_layout.specs.Transfers.{transfer_in, transfers_of}
 use Rattle.m11_link_layout.specs.declared.definition.Transfer.{Transfer}
-use Rattle.m11_link_layout.proofs.ContributionsGathered.{ContributionsOf}
+use Rattle.m11_link_layout.proofs.ContributionsCollected.{ContributionsOf}
 use Rattle.m11_link_layout.proofs.Evenness.{relocated_at}
 use Rattle.m11_link_layout.proofs.FirstEven.{all_known, find_same, known_goes_on, transfers_more, under_goes_on}
 use Rattle.m11_link_layout.proofs.Offsets.{entered_at, enters_reported, offset_from, offset_in}
-use Rattle.m11_link_layout.proofs.SectionsGathered.{SectionsOf}
+use Rattle.m11_link_layout.proofs.SectionsCollected.{SectionsOf}
 use Rattle.m11_link_layout.proofs.Sizing.{attributes_found, total_from}
 use Rattle.m11_link_layout.proofs.TransfersKnown.{AllKnown, attributes_stay, both_stay, entered_stays, relocated_under}
 use Rattle.m11_link_layout.proofs.ModulesOfParts.{itself}

@@ -8,7 +8,7 @@ use Rattle.m11_link_modules.specs.Positions.{RulesState, known_of}
 use Rattle.m11_link_modules.specs.Rules.{StopsAtName, first_fault}
 use Rattle.m11_link_modules.specs.Parts.{record_parts}
 use Rattle.m11_link_layout.specs.Fault.{of_module}
-use Rattle.m11_link_layout.specs.Tables.{LayoutTables, gathered_after_all, nothing_gathered}
+use Rattle.m11_link_layout.specs.Tables.{LayoutTables, collected_after_all, nothing_collected}
 use Rattle.m11_link_layout.specs.declared.fault.LinkFault.{LinkFault}
 use Rattle.m11_link_layout.specs.declared.fault.LinkFault.TheVariants.{Record, NoMemory}
 
@@ -23,7 +23,7 @@ pub record LayoutState : Type 0 where
 pub record LayoutAfter (bottom : ℕ) (parts : List Part) (reading : LayoutState) : Type 0 where
   pub sound : first_fault [] parts ≡ None
   pub known : reading.known ≡ known_of parts
-  pub gathered : reading.gathered ≡ gathered_after_all bottom nothing_gathered parts
+  pub gathered : reading.gathered ≡ collected_after_all bottom nothing_collected parts
   pub bottom_is : reading.bottom ≡ bottom
   pub fault : reading.fault ≡ None
 

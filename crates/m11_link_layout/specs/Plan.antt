@@ -6,7 +6,7 @@ use Rattle.std.specs.Option.{is_some, unwrap_or}
 use Rattle.indexmap.specs.IndexMap.{insert_entry}
 use Rattle.m11_base.specs.Names.{blank_name}
 use Rattle.m11_base.specs.Rad50.{Name, is_same_name}
-use Rattle.m11_link_layout.specs.Tables.{LayoutTables, gathered_after_all, is_contribution, nothing_gathered, settled}
+use Rattle.m11_link_layout.specs.Tables.{LayoutTables, collected_after_all, is_contribution, nothing_collected, settled}
 use Rattle.m11_link_layout.specs.Globals.{definitions_of, first_definition, global_value, globals_of, referred}
 use Rattle.m11_link_layout.specs.Modules.{name_at}
 use Rattle.m11_link_layout.specs.Sections.{entered_attributes, is_relocatable, is_too_large, module_base, most_size, sections_of, top}
@@ -191,7 +191,7 @@ pub record TablesBounded (plan : PlanTables) : Type 0 where
 
 -- the plan has the tables of all parts, and places the relocatable sections beginning at the bottom
 pub record IsPlan (bottom : ℕ) (parts : List Part) (plan : PlanTables) : Type 0 where
-  pub gathered : plan.gathered ≡ gathered_after_all bottom nothing_gathered parts
+  pub gathered : plan.gathered ≡ collected_after_all bottom nothing_collected parts
   pub bases : bases_onto [] bottom plan.gathered.sections ≡ Some (record { bases = plan.bases; top = plan.top })
   pub bottom_is : plan.bottom ≡ bottom
 
@@ -231,5 +231,5 @@ LayoutEnds bottom parts (Ok plan) = (fault_of parts EndOfFile ≡ None) × IsPla
 LayoutEnds bottom parts (Err BadOrder) = fault_of parts EndOfFile ≡ Some rule.BadOrder
 LayoutEnds bottom parts (Err TooLarge) = (fault_of parts EndOfFile ≡ None) × (is_too_large bottom parts ≡ true)
 LayoutEnds bottom parts (Err NoMemory) = (fault_of parts EndOfFile ≡ None)
-    × StopsAtSection [] bottom (gathered_after_all bottom nothing_gathered parts).sections
+    × StopsAtSection [] bottom (collected_after_all bottom nothing_collected parts).sections
 LayoutEnds bottom parts (Err fault) = ⊥

@@ -192,19 +192,19 @@ with_end g = record g {
   moved = settled g;
 }
 
-unfoldable pub gathered_after : ℕ → LayoutTables → Part → LayoutTables
-gathered_after bottom g (Entry entry) = with_entry bottom entry.kind entry g
-gathered_after bottom g (Relocated relocation) = with_relocated (global_of relocation.target) g
-gathered_after bottom g EndOfModule = with_end g
-gathered_after bottom g part = g
+unfoldable pub collected_after : ℕ → LayoutTables → Part → LayoutTables
+collected_after bottom g (Entry entry) = with_entry bottom entry.kind entry g
+collected_after bottom g (Relocated relocation) = with_relocated (global_of relocation.target) g
+collected_after bottom g EndOfModule = with_end g
+collected_after bottom g part = g
 
-abbrev pub gathered_after_all : ℕ → LayoutTables → List Part → LayoutTables
-gathered_after_all bottom g [] = g
-gathered_after_all bottom g (part ∷ parts) = gathered_after_all bottom (gathered_after bottom g part) parts
+abbrev pub collected_after_all : ℕ → LayoutTables → List Part → LayoutTables
+collected_after_all bottom g [] = g
+collected_after_all bottom g (part ∷ parts) = collected_after_all bottom (collected_after bottom g part) parts
 
 -- the tables before any part
-abbrev pub nothing_gathered : LayoutTables
-nothing_gathered = record {
+abbrev pub nothing_collected : LayoutTables
+nothing_collected = record {
   sections = [];
   contributions = [];
   names = [];
@@ -218,6 +218,6 @@ nothing_gathered = record {
 }
 
 -- the tables are these; or memory was refused, and nothing is known of the tables
-abbrev pub TablesKeep : {A E : Type 0} → LayoutTables → LayoutTables → Result A E → Type 0
-TablesKeep new kept (Ok done) = new ≡ kept
-TablesKeep new kept (Err refused) = ⊤
+abbrev pub TablesBecome : {A E : Type 0} → LayoutTables → LayoutTables → Result A E → Type 0
+TablesBecome new kept (Ok done) = new ≡ kept
+TablesBecome new kept (Err refused) = ⊤

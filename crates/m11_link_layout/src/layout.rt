@@ -7,8 +7,8 @@ ghost use Rattle.m11_obj.specs.Reading.{AreEntries, AreRelocations, IsRecord, ch
 ghost use Rattle.m11_link_modules.specs.Grammar.{directory_parts};
 ghost use Rattle.m11_link_modules.specs.Parts.{Part, EndOfDirectory, EndOfFile, EndOfModule, Relocated, Relocations, Text};
 ghost use Rattle.m11_link_modules.specs.Positions.{global_of};
-ghost use Rattle.m11_link_modules.specs.Steps.{RulesTake, AcceptsOne};
-ghost use Rattle.m11_link_layout.specs.Tables.{gathered_after_all, with_relocated};
+ghost use Rattle.m11_link_modules.specs.Steps.{RulesAccept, AcceptsOne};
+ghost use Rattle.m11_link_layout.specs.Tables.{collected_after_all, with_relocated};
 ghost use Rattle.m11_link_layout.specs.Plan.{LayoutEnds};
 ghost use Rattle.m11_link_layout.specs.declared.fault.LinkFault.{LinkFault};
 ghost use Rattle.m11_link_layout.specs.Layout.{FailsAgain, LayoutAfter, AcceptsBlock, AcceptsParts};
@@ -225,16 +225,16 @@ impl Layout {
 
     // Checks that a relocation record may come here, then reads and checks its relocations, and stores their references to globals.
     // The outer error is a fault of the record itself, which takes precedence; the inner error is the first fault of a part.
-    #[tactic(auto, using(m11_link_modules::proofs::Taking::taken_then, m11_link_modules::proofs::Taking::refused_first), unfolding(crate::specs::Tables::gathered_after))]
+    #[tactic(auto, using(m11_link_modules::proofs::Taking::accepted_then, m11_link_modules::proofs::Taking::refused_first), unfolding(crate::specs::Tables::collected_after))]
     fn add_relocations(
         &mut self,
         unread: &mut UnreadRelocations<'_>,
     ) -> Result<Result<(), ModuleFault>, RecordFault>
         ensures read { checked result ≡ checked (relocations_of unread.old) }
-        ensures judged { IfOk result (λ judged. RulesTake self.old.known self.new.known
+        ensures judged { IfOk result (λ judged. RulesAccept self.old.known self.new.known
             (Relocations ∷ map (λ relocation. Relocated relocation) (relocations_left unread.old)) judged) }
         ensures noted { IfOk result (λ judged. IfOk judged (λ _. self.new.gathered
-            ≡ gathered_after_all self.old.bottom self.old.gathered
+            ≡ collected_after_all self.old.bottom self.old.gathered
             (Relocations ∷ map (λ relocation. Relocated relocation) (relocations_left unread.old)))) }
         ensures bottom { self.new.bottom ≡ self.old.bottom }
         ensures kept { self.new.fault ≡ self.old.fault }
@@ -252,10 +252,10 @@ impl Layout {
         unread: &mut UnreadRelocations<'_>,
     ) -> Result<Result<(), ModuleFault>, RecordFault>
         ensures read { checked result ≡ checked (relocations_of unread.old) }
-        ensures judged { IfOk result (λ judged. RulesTake self.old.known self.new.known
+        ensures judged { IfOk result (λ judged. RulesAccept self.old.known self.new.known
             (map (λ relocation. Relocated relocation) (relocations_left unread.old)) judged) }
         ensures noted { IfOk result (λ judged. IfOk judged (λ _. self.new.gathered
-            ≡ gathered_after_all self.old.bottom self.old.gathered
+            ≡ collected_after_all self.old.bottom self.old.gathered
             (map (λ relocation. Relocated relocation) (relocations_left unread.old)))) }
         ensures bottom { self.new.bottom ≡ self.old.bottom }
         ensures kept { self.new.fault ≡ self.old.fault }

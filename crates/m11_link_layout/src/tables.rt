@@ -6,7 +6,7 @@ ghost use Rattle.std.specs.Map.{lookup};
 ghost use Rattle.m11_base.specs.Names.{blank_name};
 ghost use Rattle.m11_base.specs.Rad50.{is_same_name};
 ghost use Rattle.m11_link_modules.specs.Positions.{global_of};
-ghost use Rattle.m11_link_layout.specs.Tables.{LiesAt, TablesKeep, is_contribution, contributed, gathered_after_all, nothing_gathered, entered_total, is_concatenated, is_even_after, is_relocated, joined, next_offset, settled, total_after, with_definition, with_end, with_entry, with_name, with_reference, with_relocated, with_contribution, with_section, with_settled, with_symbol, with_total, with_transfer, with_weak};
+ghost use Rattle.m11_link_layout.specs.Tables.{LiesAt, TablesBecome, is_contribution, contributed, collected_after_all, nothing_collected, entered_total, is_concatenated, is_even_after, is_relocated, joined, next_offset, settled, total_after, with_definition, with_end, with_entry, with_name, with_reference, with_relocated, with_contribution, with_section, with_settled, with_symbol, with_total, with_transfer, with_weak};
 ghost use Rattle.m11_link_layout.specs.Globals.{location_of};
 ghost use Rattle.m11_link_layout.specs.Sections.{control_attributes};
 
@@ -162,7 +162,7 @@ fn location_of(section: Option<Name>, entry: &GsdEntry) -> GlobalLocation
 impl Tables {
     /// The tables before the first record.
     pub(crate) fn new(alloc: Global, seed: Seed) -> Tables
-        ensures { result ≡ nothing_gathered }
+        ensures { result ≡ nothing_collected }
     {
         Tables {
             sections: SeededMap::with_hasher(alloc, seed),
@@ -316,7 +316,7 @@ impl Tables {
         bottom: u16,
         entries: &[GsdEntry],
     ) -> Result<(), AllocError>
-        ensures { TablesKeep self.new (gathered_after_all bottom self.old (map (λ entry. Entry entry) entries.now)) result }
+        ensures { TablesBecome self.new (collected_after_all bottom self.old (map (λ entry. Entry entry) entries.now)) result }
     {
         'entries: for entry in entries {
             self.add_entry(bottom, entry)?;
@@ -326,7 +326,7 @@ impl Tables {
 
     // Stores the new total of a section.
     fn add_total(&mut self, name: Name, total: Total) -> Result<(), AllocError>
-        ensures { TablesKeep self.new (with_total name total self.old) result }
+        ensures { TablesBecome self.new (with_total name total self.old) result }
     {
         self.sections.insert(name, total)?;
         Ok(())
@@ -334,7 +334,7 @@ impl Tables {
 
     // Stores the offset of this module's contribution to a section, which becomes the section entered last.
     fn add_contribution(&mut self, name: Name, offset: u32) -> Result<(), AllocError>
-        ensures { TablesKeep self.new (with_contribution name offset self.old) result }
+        ensures { TablesBecome self.new (with_contribution name offset self.old) result }
     {
         self.contributions.insert((self.names.len(), name), offset)?;
         self.section = Some(name);
@@ -343,7 +343,7 @@ impl Tables {
 
     // Stores a section's entry: the section's new total, and this module's contribution.
     fn add_section(&mut self, entry: &GsdEntry, attributes: SectionFlags) -> Result<(), AllocError>
-        ensures { TablesKeep self.new (with_section entry.now attributes.0 self.old) result }
+        ensures { TablesBecome self.new (with_section entry.now attributes.0 self.old) result }
     {
         let found = self.total(entry.name);
         self.add_total(entry.name, total_after(found, attributes, entry.value))?;
@@ -352,7 +352,7 @@ impl Tables {
 
     // Stores a reference to a global. A global with one strong reference stays strong.
     fn add_reference(&mut self, name: Name, is_strong: bool) -> Result<(), AllocError>
-        ensures { TablesKeep self.new (with_reference name is_strong self.old) result }
+        ensures { TablesBecome self.new (with_reference name is_strong self.old) result }
     {
         let was_strong = self.references.get(&name).copied().unwrap_or(false);
         if was_strong {
@@ -364,7 +364,7 @@ impl Tables {
 
     // Stores a definition of a global, unless the global has one already.
     fn add_definition(&mut self, entry: &GsdEntry) -> Result<(), AllocError>
-        ensures { TablesKeep self.new (with_definition entry.now self.old) result }
+        ensures { TablesBecome self.new (with_definition entry.now self.old) result }
     {
         match self.definitions.get(&entry.name) {
             Some(_) => Ok(()),
@@ -381,7 +381,7 @@ impl Tables {
 
     // Stores the weak reference of an entry. Later relocations of this module then refer to the name weakly too.
     fn add_weak(&mut self, name: Name) -> Result<(), AllocError>
-        ensures { TablesKeep self.new (with_weak name self.old) result }
+        ensures { TablesBecome self.new (with_weak name self.old) result }
     {
         self.add_reference(name, false)?;
         self.weak.insert(name)?;
@@ -390,7 +390,7 @@ impl Tables {
 
     // Stores a global symbol's entry: a definition, a weak reference or a strong one.
     fn add_symbol(&mut self, entry: &GsdEntry) -> Result<(), AllocError>
-        ensures { TablesKeep self.new (with_symbol entry.now self.old) result }
+        ensures { TablesBecome self.new (with_symbol entry.now self.old) result }
     {
         let flags = SymbolFlags::from_bits_retain(entry.flags);
         if flags.contains(SymbolFlags::DEFINED) {
@@ -459,7 +459,7 @@ impl Tables {
 
     // Stores an entry of a directory. Internal symbols and identifications add nothing.
     fn add_entry(&mut self, bottom: u16, entry: &GsdEntry) -> Result<(), AllocError>
-        ensures { TablesKeep self.new (with_entry bottom entry.now.kind entry.now self.old) result }
+        ensures { TablesBecome self.new (with_entry bottom entry.now.kind entry.now self.old) result }
     {
         match entry.kind {
             GsdKind::ModuleName => {
@@ -480,7 +480,7 @@ impl Tables {
 
     /// Stores the reference to a global in the target of a relocation, if there is one. Fails if memory is refused.
     pub(crate) fn add_target(&mut self, target: Target) -> Result<(), AllocError>
-        ensures noted { TablesKeep self.new (with_relocated (global_of target) self.old) result }
+        ensures noted { TablesBecome self.new (with_relocated (global_of target) self.old) result }
         ensures adds { IfErr result (λ _. is_some (global_of target) ≡ true) }
     {
         match target {
@@ -494,7 +494,7 @@ impl Tables {
 
     // Stores a relocation's reference to a global. The reference is weak if an earlier entry of this module refers to the name weakly.
     fn add_relocated(&mut self, name: Name) -> Result<(), AllocError>
-        ensures { TablesKeep self.new (with_relocated (Some name) self.old) result }
+        ensures { TablesBecome self.new (with_relocated (Some name) self.old) result }
     {
         let is_weak = self.weak.contains(&name);
         self.add_reference(name, !is_weak)
@@ -503,7 +503,7 @@ impl Tables {
     /// Ends a module: settles the transfer address, stores the module's name, which is blank if no entry has one, and forgets what
     /// is known of this module alone. Fails if memory is refused.
     pub(crate) fn end_module(&mut self) -> Result<(), AllocError>
-        ensures { TablesKeep self.new (with_end self.old) result }
+        ensures { TablesBecome self.new (with_end self.old) result }
     {
         let name = match self.name {
             Some(name) => name,

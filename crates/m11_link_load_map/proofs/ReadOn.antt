@@ -17,7 +17,7 @@ use Rattle.m11_link.specs.FirstPass.{LaysOutObject, LayoutBetween}
 use Rattle.m11_link.specs.Objects.{Item, BlockOf, ObjectEnds, taken, unless_too_large}
 use Rattle.m11_link.specs.Objects as objects
 use Rattle.m11_link.proofs.FirstRead.{Laid, LaidAll, are_after, laid_ends, object_stops, one_object, reading_ends, reading_stops}
-use Rattle.m11_link.proofs.ItemsAccepted.{bind_on, block_taken, end_taken, ends_again, one_taken, rest_sound, taken_after}
+use Rattle.m11_link.proofs.ItemsAccepted.{bind_on, block_taken, end_taken, ends_again, one_taken, rest_sound, accepted_after}
 use Rattle.m11_link.proofs.ObjectsRead.{walk_begins, walk_ends, walk_more}
 use Rattle.m11_link_load_map.specs.Noted.{noted_of}
 use Rattle.m11_link_load_map.specs.Reading.{NotedBetween, NotesAll, NotesObject, NotesObjects, NotedAfter}
@@ -86,7 +86,7 @@ module _ (text text1 : Option Text) (faults faults1 room1 bottom : ℕ) (before 
       done = l.laid.done ++ BlockOf content ∷ [];
       walked = walk_more text text1 faults faults1 room1 l.laid.done l.laid.walked text2 faults2 room2 content r;
       parts = l.laid.parts ++ record_parts content;
-      taken-is = taken_after before l.laid.done (BlockOf content ∷ []) l.laid.parts l.laid.taken-is
+      taken-is = accepted_after before l.laid.done (BlockOf content ∷ []) l.laid.parts l.laid.taken-is
           ∙ one_taken l.laid.parts (BlockOf content) (Ok (l.laid.parts ++ record_parts content))
           (block_taken l.laid.parts content is s.laid.sound);
       stands = s.laid;
@@ -105,7 +105,7 @@ module _ (text text1 : Option Text) (faults faults1 room1 bottom : ℕ) (before 
         record {
           reaches = record {
             parts = l.laid.parts ++ EndOfFile ∷ [];
-            taken-is = taken_after before l.laid.done (ObjectEnds ∷ []) l.laid.parts l.laid.taken-is
+            taken-is = accepted_after before l.laid.done (ObjectEnds ∷ []) l.laid.parts l.laid.taken-is
                 ∙ one_taken l.laid.parts ObjectEnds (Ok (l.laid.parts ++ EndOfFile ∷ [])) (end_taken l.laid.parts t.sound);
             stands = record { stands = t; between = ends_again l.laid.parts t.sound };
           };
@@ -170,7 +170,7 @@ module _ {F : Type 0} (text : F → Option Text) (faults : F → ℕ) where
       are = are_after l.laid.sources (h.2.source ∷ []) l.laid.items h.1 l.laid.are (one_object h.2.source h.1 h.2.are);
       reaches = record {
         parts = h.3.reaches.parts;
-        taken-is = taken_after before l.laid.items h.1 l.laid.reaches.parts l.laid.reaches.taken-is ∙ h.3.reaches.taken-is;
+        taken-is = accepted_after before l.laid.items h.1 l.laid.reaches.parts l.laid.reaches.taken-is ∙ h.3.reaches.taken-is;
         stands = h.3.reaches.stands;
       };
     };

@@ -3,7 +3,7 @@ use Rattle.std.specs.Prelude.{◌≡◌, ℕ, List, Result, Ok, Err}
 use Rattle.std.specs.Io.KnownBytes.{Appends}
 use Rattle.m11_base.specs.Devices.{Bytes, Rises}
 use Rattle.m11_base.specs.Feed.{NoneFailed}
-use Rattle.m11_base.specs.Sink.{AppendsBeginning}
+use Rattle.m11_base.specs.Sink.{AppendsPrefix}
 use Rattle.m11_link_modules.specs.Parts.{Part}
 use Rattle.m11_link_layout.specs.Plan.{PlanTables}
 use Rattle.m11_link_layout.specs.declared.planned.PlannedGlobal.{PlannedGlobal}
@@ -37,7 +37,7 @@ LoadMapRuns pass bottom out out' (Ok done) =
     (text : Bytes) × Maps pass bottom text × Appends out.text out'.text text × (out'.faults ≡ out.faults)
 LoadMapRuns pass bottom out out' (Err (Objects stopped)) = IsRefused pass bottom stopped × (out' ≡ out)
 LoadMapRuns pass bottom out out' (Err Write) =
-    (text : Bytes) × Maps pass bottom text × AppendsBeginning out.text out'.text text × Rises out.faults out'.faults
+    (text : Bytes) × Maps pass bottom text × AppendsPrefix out.text out'.text text × Rises out.faults out'.faults
 
 -- ---- the map from a plan
 

@@ -11,12 +11,12 @@ use Rattle.m11_link_modules.specs.Grammar.{BodyRecord, TextRecord, RelocationRec
 use Rattle.m11_link_modules.specs.Laws.{AreFiles, AreInOrder}
 use Rattle.m11_link_modules.specs.Parts.{Part, Directory, Entry, EndOfDirectory, Text, Relocations, Relocated, EndOfModule, EndOfFile}
 use Rattle.m11_link_modules.specs.Positions.{stage_from, stage_after}
-use Rattle.m11_link_modules.specs.Rules.{may_stand}
+use Rattle.m11_link_modules.specs.Rules.{may_occur}
 
 -- each of these parts comes where it may, and they lead from the first stage to the last
 abbrev pub Leads : Stage → List Part → Stage → Type 0
 Leads stage [] last = stage ≡ last
-Leads stage (part ∷ parts) last = (may_stand part stage ≡ true) × Leads (stage_from stage (part ∷ [])) parts last
+Leads stage (part ∷ parts) last = (may_occur part stage ≡ true) × Leads (stage_from stage (part ∷ [])) parts last
 
 stage_step : (stage : Stage) (part : Part) (parts : List Part)
     → stage_from (stage_from stage (part ∷ [])) parts ≡ stage_from stage (part ∷ parts)
@@ -32,10 +32,10 @@ stage_step stage EndOfFile parts = refl
 -- ---- each part comes where it may
 
 leads_there : (stage last : Stage) (before : List Part) (part : Part) (following : List Part)
-    → Leads stage (before ++ part ∷ following) last → may_stand part (stage_from stage before) ≡ true
+    → Leads stage (before ++ part ∷ following) last → may_occur part (stage_from stage before) ≡ true
 leads_there stage last [] part following h = h.0
 leads_there stage last (first ∷ before) part following h =
-    let P : Stage → Type 0 = λ s. may_stand part s ≡ true in
+    let P : Stage → Type 0 = λ s. may_occur part s ≡ true in
     subst P (stage_step stage first before) (leads_there (stage_from stage (first ∷ [])) last before part following h.1)
 
 in_order : (parts : List Part) → Leads Between parts Between → AreInOrder parts
@@ -51,12 +51,12 @@ leads_to stage last (part ∷ parts) h =
 
 abbrev IsOrderedFrom : Stage → List Part → Type 0
 IsOrderedFrom stage parts = (before : List Part) (part : Part) (following : List Part) → parts ≡ before ++ part ∷ following
-    → may_stand part (stage_from stage before) ≡ true
+    → may_occur part (stage_from stage before) ≡ true
 
 after_first : (stage : Stage) (first : Part) (parts : List Part) → IsOrderedFrom stage (first ∷ parts)
     → IsOrderedFrom (stage_from stage (first ∷ [])) parts
 after_first stage first parts h before part following e =
-    let P : Stage → Type 0 = λ s. may_stand part s ≡ true in
+    let P : Stage → Type 0 = λ s. may_occur part s ≡ true in
     let Q : List Part → Type 0 = λ all. first ∷ parts ≡ first ∷ all in
     subst P (sym (stage_step stage first before)) (h (first ∷ before) part following (subst Q e refl))
 

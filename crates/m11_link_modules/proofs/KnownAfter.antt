@@ -21,7 +21,7 @@ use Rattle.m11_link_modules.specs.declared.fault.ModuleFault.{ModuleFault}
 use Rattle.m11_link_modules.specs.declared.fault.ModuleFault.TheVariants.{BadOrder, NoText, BadDisplacement, UnknownSection, TextOutside, TooManyGlobals, TooManySections, TooManyModules, NoMemory}
 use Rattle.m11_link_modules.specs.Rules.{first_there, entry_fault, is_past, most_sections, fault_known, fault_of, first_fault}
 use Rattle.m11_link_modules.specs.Laws.{AcceptsAfter}
-use Rattle.m11_link_modules.specs.Steps.{known_after, known_after_all, first_known_fault, RulesTake, with_entry, with_end, with_optional_global}
+use Rattle.m11_link_modules.specs.Steps.{known_after, known_after_all, first_known_fault, RulesAccept, with_entry, with_end, with_optional_global}
 use Rattle.m11_link_modules.specs.Positions.{global_of, section_by, global_by, this_module, ends_module, modules_in, stage_from, stage_after, section_in, sections_in, selected_by, section_after, current_section, length_after, text_length, distinct, distinct_after, global_in, global_names, section_names, RulesState, known_of}
 
 -- ---- the parts of the module
@@ -312,12 +312,12 @@ all_after before old new parts is h e =
     subst R (sym (known_after_parts before parts (subst P is h))) (subst Q is e)
 
 -- parts that are accepted from the state known after earlier parts are accepted after these
-pub taken_after : (before : List Part) (old new : RulesState) (parts : List Part) (result : Result (Unit {0}) ModuleFault)
-    → old ≡ known_of before → RulesTake old new parts result → AcceptsAfter before new parts result
-unfolding RulesTake
-taken_after before old new parts (Ok done) is h =
+pub accepted_after : (before : List Part) (old new : RulesState) (parts : List Part) (result : Result (Unit {0}) ModuleFault)
+    → old ≡ known_of before → RulesAccept old new parts result → AcceptsAfter before new parts result
+unfolding RulesAccept
+accepted_after before old new parts (Ok done) is h =
     (fault_after before old parts None is h.0, all_after before old new parts is h.0 h.1)
-taken_after before old new parts (Err NoMemory) is h = record {
+accepted_after before old new parts (Err NoMemory) is h = record {
   taken = h.taken;
   part = h.part;
   left = h.left;
@@ -325,11 +325,11 @@ taken_after before old new parts (Err NoMemory) is h = record {
   sound = fault_after before old (h.taken ++ h.part ∷ []) None is h.sound;
   adds = h.adds;
 }
-taken_after before old new parts (Err BadOrder) is h = fault_after before old parts (Some BadOrder) is h
-taken_after before old new parts (Err NoText) is h = fault_after before old parts (Some NoText) is h
-taken_after before old new parts (Err BadDisplacement) is h = fault_after before old parts (Some BadDisplacement) is h
-taken_after before old new parts (Err UnknownSection) is h = fault_after before old parts (Some UnknownSection) is h
-taken_after before old new parts (Err TextOutside) is h = fault_after before old parts (Some TextOutside) is h
-taken_after before old new parts (Err TooManyGlobals) is h = fault_after before old parts (Some TooManyGlobals) is h
-taken_after before old new parts (Err TooManySections) is h = fault_after before old parts (Some TooManySections) is h
-taken_after before old new parts (Err TooManyModules) is h = fault_after before old parts (Some TooManyModules) is h
+accepted_after before old new parts (Err BadOrder) is h = fault_after before old parts (Some BadOrder) is h
+accepted_after before old new parts (Err NoText) is h = fault_after before old parts (Some NoText) is h
+accepted_after before old new parts (Err BadDisplacement) is h = fault_after before old parts (Some BadDisplacement) is h
+accepted_after before old new parts (Err UnknownSection) is h = fault_after before old parts (Some UnknownSection) is h
+accepted_after before old new parts (Err TextOutside) is h = fault_after before old parts (Some TextOutside) is h
+accepted_after before old new parts (Err TooManyGlobals) is h = fault_after before old parts (Some TooManyGlobals) is h
+accepted_after before old new parts (Err TooManySections) is h = fault_after before old parts (Some TooManySections) is h
+accepted_after before old new parts (Err TooManyModules) is h = fault_after before old parts (Some TooManyModules) is h

@@ -15,7 +15,7 @@ use Rattle.m11_link_modules.specs.declared.stage.Stage.{Stage}
 use Rattle.m11_link_modules.specs.declared.stage.Stage.TheVariants.{Between, InDirectory, InBody}
 use Rattle.m11_link_modules.specs.Parts.{Part, Directory, Entry, EndOfDirectory, Text, Relocated}
 use Rattle.m11_link_modules.specs.Positions.{RulesState}
-use Rattle.m11_link_modules.specs.Rules.{begin_fault, entering_fault, entry_fault, fault_in_order, fault_known, first_there, global_fault, is_past, location_fault, may_stand, most_sections, relocation_by, section_fault, symbol_fault, target_fault}
+use Rattle.m11_link_modules.specs.Rules.{begin_fault, entering_fault, entry_fault, fault_in_order, fault_known, first_there, global_fault, is_past, location_fault, may_occur, most_sections, relocation_by, section_fault, symbol_fault, target_fault}
 
 abbrev NotMemory : Option ModuleFault → Type 0
 NotMemory fault = fault ≡ Some NoMemory → ⊥
@@ -99,4 +99,4 @@ chosen_is false known part e = cc
 
 pub no_memory : (known : RulesState) (part : Part) → fault_known known part ≡ Some NoMemory → ⊥
 unfolding fault_known
-no_memory known part e = chosen_is (may_stand part known.stage) known part e
+no_memory known part e = chosen_is (may_occur part known.stage) known part e

@@ -8,21 +8,21 @@ use Rattle.m11_obj.specs.declared.relocations.Relocation.{Relocation}
 use Rattle.m11_link_modules.specs.Parts.{Part, Relocated}
 use Rattle.m11_link_modules.specs.Positions.{RulesState}
 use Rattle.m11_link_modules.specs.Rules.{returned, fault_known, relocation_fault}
-use Rattle.m11_link_modules.specs.Steps.{RulesTake, AcceptsOne, known_after, known_after_all, first_known_fault}
+use Rattle.m11_link_modules.specs.Steps.{RulesAccept, AcceptsOne, known_after, known_after_all, first_known_fault}
 use Rattle.m11_link_modules.proofs.Indexing.{drop_at}
 use Rattle.m11_link_modules.proofs.Refusals.{no_memory}
 
 abbrev pub Outcome : Type 0
 Outcome = Result (Unit {0}) ModuleFault
 
-pub none_taken : (known : RulesState) (done : Unit {0}) → RulesTake known known [] (Ok done)
-unfolding RulesTake
+pub none_taken : (known : RulesState) (done : Unit {0}) → RulesAccept known known [] (Ok done)
+unfolding RulesAccept
 none_taken known done = (refl, refl)
 
 -- the fault of a part is a result of accepting it and the parts after it
 pub refused_first : (old new other : RulesState) (part : Part) (parts : List Part) (fault : ModuleFault)
-    → AcceptsOne old other part (Err fault) → RulesTake old new (part ∷ parts) (Err fault)
-unfolding RulesTake AcceptsOne
+    → AcceptsOne old other part (Err fault) → RulesAccept old new (part ∷ parts) (Err fault)
+unfolding RulesAccept AcceptsOne
 refused_first old new other part parts NoMemory h = record {
   taken = [];
   part = part;
@@ -50,13 +50,13 @@ then_fault old middle part parts fault none e h =
     let Q : Option ModuleFault → Type 0 = λ o. option_or o (first_known_fault (known_after old part) parts) ≡ fault in
     subst Q (sym none) g
 
-pub taken_then : (old middle new : RulesState) (part : Part) (parts : List Part) (done : Unit {0}) (result : Outcome)
-    → AcceptsOne old middle part (Ok done) → RulesTake middle new parts result → RulesTake old new (part ∷ parts) result
-unfolding RulesTake AcceptsOne
-taken_then old middle new part parts done (Ok x) h k =
+pub accepted_then : (old middle new : RulesState) (part : Part) (parts : List Part) (done : Unit {0}) (result : Outcome)
+    → AcceptsOne old middle part (Ok done) → RulesAccept middle new parts result → RulesAccept old new (part ∷ parts) result
+unfolding RulesAccept AcceptsOne
+accepted_then old middle new part parts done (Ok x) h k =
     let P : RulesState → Type 0 = λ m. new ≡ known_after_all m parts in
     (then_fault old middle part parts None h.0 h.1 k.0, subst P h.1 k.1)
-taken_then old middle new part parts done (Err NoMemory) h k = record {
+accepted_then old middle new part parts done (Err NoMemory) h k = record {
   taken = part ∷ k.taken;
   part = k.part;
   left = k.left;
@@ -64,37 +64,37 @@ taken_then old middle new part parts done (Err NoMemory) h k = record {
   sound = then_fault old middle part (k.taken ++ k.part ∷ []) None h.0 h.1 k.sound;
   adds = k.adds;
 }
-taken_then old middle new part parts done (Err BadOrder) h k = then_fault old middle part parts (Some BadOrder) h.0 h.1 k
-taken_then old middle new part parts done (Err NoText) h k = then_fault old middle part parts (Some NoText) h.0 h.1 k
-taken_then old middle new part parts done (Err BadDisplacement) h k = then_fault old middle part parts (Some BadDisplacement) h.0 h.1 k
-taken_then old middle new part parts done (Err UnknownSection) h k = then_fault old middle part parts (Some UnknownSection) h.0 h.1 k
-taken_then old middle new part parts done (Err TextOutside) h k = then_fault old middle part parts (Some TextOutside) h.0 h.1 k
-taken_then old middle new part parts done (Err TooManyGlobals) h k = then_fault old middle part parts (Some TooManyGlobals) h.0 h.1 k
-taken_then old middle new part parts done (Err TooManySections) h k = then_fault old middle part parts (Some TooManySections) h.0 h.1 k
-taken_then old middle new part parts done (Err TooManyModules) h k = then_fault old middle part parts (Some TooManyModules) h.0 h.1 k
+accepted_then old middle new part parts done (Err BadOrder) h k = then_fault old middle part parts (Some BadOrder) h.0 h.1 k
+accepted_then old middle new part parts done (Err NoText) h k = then_fault old middle part parts (Some NoText) h.0 h.1 k
+accepted_then old middle new part parts done (Err BadDisplacement) h k = then_fault old middle part parts (Some BadDisplacement) h.0 h.1 k
+accepted_then old middle new part parts done (Err UnknownSection) h k = then_fault old middle part parts (Some UnknownSection) h.0 h.1 k
+accepted_then old middle new part parts done (Err TextOutside) h k = then_fault old middle part parts (Some TextOutside) h.0 h.1 k
+accepted_then old middle new part parts done (Err TooManyGlobals) h k = then_fault old middle part parts (Some TooManyGlobals) h.0 h.1 k
+accepted_then old middle new part parts done (Err TooManySections) h k = then_fault old middle part parts (Some TooManySections) h.0 h.1 k
+accepted_then old middle new part parts done (Err TooManyModules) h k = then_fault old middle part parts (Some TooManyModules) h.0 h.1 k
 
 -- a result of accepting one part is a result of accepting a list of this part
-pub taken_one : (old new : RulesState) (part : Part) (result : Outcome) → AcceptsOne old new part result → RulesTake old new (part ∷ []) result
-taken_one old new part (Ok done) h = taken_then old new new part [] done (Ok done) h (none_taken new done)
-taken_one old new part (Err fault) h = refused_first old new new part [] fault h
+pub accepted_one : (old new : RulesState) (part : Part) (result : Outcome) → AcceptsOne old new part result → RulesAccept old new (part ∷ []) result
+accepted_one old new part (Ok done) h = accepted_then old new new part [] done (Ok done) h (none_taken new done)
+accepted_one old new part (Err fault) h = refused_first old new new part [] fault h
 
 -- ---- loops: a result for the remaining parts is a result for all of them
 
 abbrev pub GoesOn : RulesState → RulesState → List Part → List Part → Type 0
-GoesOn old now rest all = (new : RulesState) (result : Outcome) → RulesTake now new rest result → RulesTake old new all result
+GoesOn old now rest all = (new : RulesState) (result : Outcome) → RulesAccept now new rest result → RulesAccept old new all result
 
 pub begins : (old : RulesState) (all : List Part) → GoesOn old old all all
 begins old all new result h = h
 
 pub goes_on : (old now later : RulesState) (part : Part) (rest all : List Part) (done : Unit {0})
     → GoesOn old now (part ∷ rest) all → AcceptsOne now later part (Ok done) → GoesOn old later rest all
-goes_on old now later part rest all done i h new result k = i new result (taken_then now later new part rest done result h k)
+goes_on old now later part rest all done i h new result k = i new result (accepted_then now later new part rest done result h k)
 
 pub stops : (old now new other : RulesState) (part : Part) (rest all : List Part) (fault : ModuleFault)
-    → GoesOn old now (part ∷ rest) all → AcceptsOne now other part (Err fault) → RulesTake old new all (Err fault)
+    → GoesOn old now (part ∷ rest) all → AcceptsOne now other part (Err fault) → RulesAccept old new all (Err fault)
 stops old now new other part rest all fault i h = i new (Err fault) (refused_first now new other part rest fault h)
 
-pub ends : (old now : RulesState) (all : List Part) (done : Unit {0}) → GoesOn old now [] all → RulesTake old now all (Ok done)
+pub ends : (old now : RulesState) (all : List Part) (done : Unit {0}) → GoesOn old now [] all → RulesAccept old now all (Ok done)
 ends old now all done i = i now (Ok done) (none_taken now done)
 
 -- ---- refusals
@@ -143,13 +143,13 @@ module _ {X : Type 0} (make : X → Part) where
 
   pub walk_refused : (old now new other : RulesState) (items rest following : List X) (item : X) (fault : ModuleFault) → rest ≡ item ∷ following
       → GoesOn old now (map make rest) (map make items) → AcceptsOne now other (make item) (Err fault)
-      → RulesTake old new (map make items) (Err fault)
+      → RulesAccept old new (map make items) (Err fault)
   walk_refused old now new other items rest following item fault e i h =
       let P : List X → Type 0 = λ left. GoesOn old now (map make left) (map make items) in
       stops old now new other (make item) (map make following) (map make items) fault (subst P e i) h
 
   pub walk_ended : (old now : RulesState) (items rest : List X) (done : Unit {0}) → rest ≡ []
-      → GoesOn old now (map make rest) (map make items) → RulesTake old now (map make items) (Ok done)
+      → GoesOn old now (map make rest) (map make items) → RulesAccept old now (map make items) (Ok done)
   walk_ended old now items rest done e i =
       let P : List X → Type 0 = λ left. GoesOn old now (map make left) (map make items) in
       ends old now (map make items) done (subst P e i)
@@ -163,10 +163,10 @@ module _ {X : Type 0} (make : X → Part) where
 
   pub item_refused : (old now new other : RulesState) (items : List X) (index : ℕ) (item : X) (fault : ModuleFault) → slice_get items index ≡ Some item
       → GoesOn old now (map make (drop index items)) (map make items) → AcceptsOne now other (make item) (Err fault)
-      → RulesTake old new (map make items) (Err fault)
+      → RulesAccept old new (map make items) (Err fault)
   item_refused old now new other items index item fault e i h =
       walk_refused old now new other items (drop index items) (drop (index + 1) items) item fault (drop_at items index item e) i h
 
   pub items_taken : (old now : RulesState) (items : List X) (index : ℕ) (done : Unit {0}) → length items ≤ index
-      → GoesOn old now (map make (drop index items)) (map make items) → RulesTake old now (map make items) (Ok done)
+      → GoesOn old now (map make (drop index items)) (map make items) → RulesAccept old now (map make items) (Ok done)
   items_taken old now items index done le i = walk_ended old now items (drop index items) done (drop_all index items le) i

@@ -9,7 +9,7 @@ use Rattle.m11_obj.proofs.Unread.{are_left, are_where_checked, checked_next, che
 use Rattle.m11_link_modules.specs.declared.fault.ModuleFault.{ModuleFault}
 use Rattle.m11_link_modules.specs.Parts.{Part, Relocated, Relocations, parts_in, record_parts}
 use Rattle.m11_link_modules.specs.Positions.{RulesState}
-use Rattle.m11_link_modules.specs.Steps.{RulesTake, AcceptsOne}
+use Rattle.m11_link_modules.specs.Steps.{RulesAccept, AcceptsOne}
 use Rattle.m11_link_modules.proofs.Taking.{GoesOn, Outcome, walk_ended, walk_refused, walk_taken}
 
 -- the parts of the relocations that these bytes have
@@ -43,7 +43,7 @@ module _ (all bytes rest : List ℕ) (relocation : Relocation) (same : SameRead 
 
   pub one_refused : (old now new other : RulesState) (fault : ModuleFault) → LeadsOn old now bytes all
       → AcceptsOne now other (Relocated relocation) (Err fault) → AreRelocations all
-      → RulesTake old new (parts_left all) (Err fault)
+      → RulesAccept old new (parts_left all) (Err fault)
   one_refused old now new other fault i h are = walk_refused (λ relocation. Relocated relocation) old now new other
       (relocations_left all) (relocations_left bytes) (relocations_left rest) relocation fault (left_after are) (i are) h
 
@@ -54,7 +54,7 @@ module _ (all bytes : List ℕ) (same : SameRead bytes all) (none : relocations_
   pub all_are : AreRelocations all
   all_are = are_where_checked all tt (sym all_read)
 
-  pub all_taken : (old now : RulesState) (done : Unit {0}) → LeadsOn old now bytes all → RulesTake old now (parts_left all) (Ok done)
+  pub all_taken : (old now : RulesState) (done : Unit {0}) → LeadsOn old now bytes all → RulesAccept old now (parts_left all) (Ok done)
   all_taken old now done i = walk_ended (λ relocation. Relocated relocation) old now (relocations_left all)
       (relocations_left bytes) done (left_none bytes none) (i all_are)
 
@@ -74,14 +74,14 @@ abbrev pub Judged : Type 0
 Judged = Result Outcome RecordFault
 
 judged_by : (old new : RulesState) (all : List ℕ) (fault : ModuleFault) (outcome : Outcome) → outcome ≡ Err fault
-    → RulesTake old new (parts_left all) (Err fault) → RulesTake old new (parts_left all) outcome
+    → RulesAccept old new (parts_left all) (Err fault) → RulesAccept old new (parts_left all) outcome
 judged_by old new all fault outcome e h =
-    let P : Outcome → Type 0 = λ o. RulesTake old new (parts_left all) o in subst P (sym e) h
+    let P : Outcome → Type 0 = λ o. RulesAccept old new (parts_left all) o in subst P (sym e) h
 
 pub refused_judged : (old new : RulesState) (all : List ℕ) (fault : ModuleFault) (result : Judged)
     → IfOk result (λ judged. judged ≡ Err fault) → checked result ≡ checked (relocations_of all)
-    → (AreRelocations all → RulesTake old new (parts_left all) (Err fault))
-    → IfOk result (λ judged. RulesTake old new (parts_left all) judged)
+    → (AreRelocations all → RulesAccept old new (parts_left all) (Err fault))
+    → IfOk result (λ judged. RulesAccept old new (parts_left all) judged)
 refused_judged old new all fault (Ok outcome) e same h =
     judged_by old new all fault outcome e (h (are_where_checked all tt (sym same)))
 refused_judged old new all fault (Err refused) e same h = tt

@@ -6,7 +6,7 @@ use Rattle.m11_link_modules.specs.declared.fault.ModuleFault.TheVariants.{NoMemo
 use Rattle.m11_link_modules.specs.Grammar.{Module, files_parts}
 use Rattle.m11_link_modules.specs.Parts.{Part}
 use Rattle.m11_link_modules.specs.Positions.{RulesState, known_of, stage_after}
-use Rattle.m11_link_modules.specs.Rules.{StopsAtName, first_fault, may_stand}
+use Rattle.m11_link_modules.specs.Rules.{StopsAtName, first_fault, may_occur}
 
 -- parts were accepted after the earlier ones, and `new` is the state after the earlier parts and these; or their first fault was
 -- returned; or memory was refused at a part that adds a name, and neither that part nor one before it has a fault
@@ -18,7 +18,7 @@ AcceptsAfter before new parts (Err fault) = first_fault before parts ≡ Some fa
 -- each part may come at the stage after the parts before it
 abbrev pub AreInOrder : List Part → Type 0
 AreInOrder parts = (before : List Part) (part : Part) (following : List Part) → parts ≡ before ++ part ∷ following
-    → may_stand part (stage_after before) ≡ true
+    → may_occur part (stage_after before) ≡ true
 
 -- these parts are those of files of whole modules
 abbrev pub AreFiles : List Part → Type 0

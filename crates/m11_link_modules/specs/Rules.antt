@@ -22,21 +22,21 @@ use Rattle.m11_link_modules.specs.declared.stage.Stage.TheVariants.{Between, InB
 -- ---- the order of records
 
 -- whether a part may come at this stage; entries and relocations always may, since the beginning of their record is judged instead
-abbrev pub may_stand : Part → Stage → Bool
-may_stand Directory InBody = false
-may_stand Directory stage = true
-may_stand EndOfDirectory InBody = false
-may_stand EndOfDirectory stage = true
-may_stand (Text address bytes) InBody = true
-may_stand (Text address bytes) stage = false
-may_stand Relocations InBody = true
-may_stand Relocations stage = false
-may_stand EndOfModule InBody = true
-may_stand EndOfModule stage = false
-may_stand EndOfFile Between = true
-may_stand EndOfFile stage = false
-may_stand (Entry entry) stage = true
-may_stand (Relocated relocation) stage = true
+abbrev pub may_occur : Part → Stage → Bool
+may_occur Directory InBody = false
+may_occur Directory stage = true
+may_occur EndOfDirectory InBody = false
+may_occur EndOfDirectory stage = true
+may_occur (Text address bytes) InBody = true
+may_occur (Text address bytes) stage = false
+may_occur Relocations InBody = true
+may_occur Relocations stage = false
+may_occur EndOfModule InBody = true
+may_occur EndOfModule stage = false
+may_occur EndOfFile Between = true
+may_occur EndOfFile stage = false
+may_occur (Entry entry) stage = true
+may_occur (Relocated relocation) stage = true
 
 -- ---- the limits
 
@@ -158,7 +158,7 @@ fault_in_order known part = None
 
 -- the fault of a part, if it has one, given what is known before it; BadOrder if the part may not come at that stage
 unfoldable pub fault_known : RulesState → Part → Option ModuleFault
-fault_known known part = if may_stand part known.stage then fault_in_order known part else Some BadOrder
+fault_known known part = if may_occur part known.stage then fault_in_order known part else Some BadOrder
 
 -- the fault of a part after the parts before it, if it has one
 abbrev pub fault_of : List Part → Part → Option ModuleFault

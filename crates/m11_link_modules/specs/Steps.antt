@@ -83,7 +83,7 @@ AcceptsOne old new part (Err fault) = fault_known old part ≡ Some fault
 
 -- parts were accepted, or their first fault was returned; or memory was refused at a part that adds a name, and neither that part nor
 -- one before it has a fault
-unfoldable pub RulesTake : RulesState → RulesState → List Part → Result (Unit {0}) ModuleFault → Type 0
-RulesTake old new parts (Ok done) = (first_known_fault old parts ≡ None) × (new ≡ known_after_all old parts)
-RulesTake old new parts (Err NoMemory) = StopsAtName (first_known_fault old) parts
-RulesTake old new parts (Err fault) = first_known_fault old parts ≡ Some fault
+unfoldable pub RulesAccept : RulesState → RulesState → List Part → Result (Unit {0}) ModuleFault → Type 0
+RulesAccept old new parts (Ok done) = (first_known_fault old parts ≡ None) × (new ≡ known_after_all old parts)
+RulesAccept old new parts (Err NoMemory) = StopsAtName (first_known_fault old) parts
+RulesAccept old new parts (Err fault) = first_known_fault old parts ≡ Some fault

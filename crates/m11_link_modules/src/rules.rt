@@ -7,7 +7,7 @@ ghost use Rattle.m11_link_modules.specs.Laws.{AcceptsAfter};
 ghost use Rattle.m11_link_modules.specs.Parts.{Part, Directory, Entry, EndOfDirectory, Text, Relocations, Relocated, EndOfModule, EndOfFile, record_parts};
 ghost use Rattle.m11_link_modules.specs.Positions.{adds_name, global_of, known_of};
 ghost use Rattle.m11_link_modules.specs.Rules.{outcome_of};
-ghost use Rattle.m11_link_modules.specs.Steps.{Notes, RulesTake, AcceptsOne, with_section, with_global, with_entry, with_target};
+ghost use Rattle.m11_link_modules.specs.Steps.{Notes, RulesAccept, AcceptsOne, with_section, with_global, with_entry, with_target};
 ghost use Rattle.m11_link_modules.specs.TextRelocation.{stored_in};
 
 use crate::checks::{check_begin, check_entry, check_relocation, check_text};
@@ -98,7 +98,7 @@ impl Rules {
     /// Faults: the first in the order of the record's parts; within a part, in this order: `BadOrder`, `NoText`, `BadDisplacement`,
     /// `UnknownSection`, `TextOutside`, then a limit. `NoMemory` if memory is refused for a name, and neither the name's part nor a
     /// part before it has a fault. After a fault nothing is known of the rules until `forget` is called.
-    #[tactic(auto, using(crate::proofs::KnownAfter::taken_after))]
+    #[tactic(auto, using(crate::proofs::KnownAfter::accepted_after))]
     pub fn record(&mut self, record: &Record<'_>) -> Result<(), ModuleFault>
         ensures { (before : List Part) → self.old ≡ known_of before
             → AcceptsAfter before self.new (record_parts «record».now) result }
@@ -107,7 +107,7 @@ impl Rules {
     }
 
     /// Accepts the end of a file. `BadOrder` inside a module is its only fault.
-    #[tactic(auto, using(crate::proofs::KnownAfter::taken_after, crate::proofs::Taking::taken_one))]
+    #[tactic(auto, using(crate::proofs::KnownAfter::accepted_after, crate::proofs::Taking::accepted_one))]
     pub fn end_of_file(&mut self) -> Result<(), ModuleFault>
         ensures takes { (before : List Part) → self.old ≡ known_of before
             → AcceptsAfter before self.new (EndOfFile ∷ []) result }
@@ -117,9 +117,9 @@ impl Rules {
     }
 
     // Accepts one record, or returns the first fault of its parts, or `NoMemory`.
-    #[tactic(auto, using(crate::proofs::Taking::taken_one, crate::proofs::Taking::none_taken))]
+    #[tactic(auto, using(crate::proofs::Taking::accepted_one, crate::proofs::Taking::none_taken))]
     fn accept_record(&mut self, record: &Record<'_>) -> Result<(), ModuleFault>
-        ensures { RulesTake self.old self.new (record_parts «record».now) result }
+        ensures { RulesAccept self.old self.new (record_parts «record».now) result }
     {
         match record.kind() {
             RecordKind::Gsd => self.directory_record(record),
@@ -211,9 +211,9 @@ impl Rules {
     ///
     /// Faults: `BadOrder` in the body of a module, then `TooManyModules` if it would begin the 33rd module; then the first fault of
     /// the entries, in their order; within an entry `BadOrder`, `UnknownSection`, then a limit. `NoMemory` as in `record`.
-    #[tactic(auto, using(crate::proofs::Taking::taken_then, crate::proofs::Taking::refused_first))]
+    #[tactic(auto, using(crate::proofs::Taking::accepted_then, crate::proofs::Taking::refused_first))]
     pub fn directory(&mut self, entries: &[GsdEntry]) -> Result<(), ModuleFault>
-        ensures { RulesTake self.old self.new (Directory ∷ map (λ entry. Entry entry) entries.now) result }
+        ensures { RulesAccept self.old self.new (Directory ∷ map (λ entry. Entry entry) entries.now) result }
     {
         self.begin_directory()?;
         self.entries(entries)
@@ -221,7 +221,7 @@ impl Rules {
 
     // Accepts the entries of a directory record, which were already read.
     fn entries(&mut self, entries: &[GsdEntry]) -> Result<(), ModuleFault>
-        ensures { RulesTake self.old self.new (map (λ entry. Entry entry) entries.now) result }
+        ensures { RulesAccept self.old self.new (map (λ entry. Entry entry) entries.now) result }
     {
         'entries: for entry in entries {
             self.entry(entry)?;
@@ -230,9 +230,9 @@ impl Rules {
     }
 
     // Accepts a directory record and its entries.
-    #[tactic(auto, using(crate::proofs::Taking::taken_then, crate::proofs::Taking::refused_first))]
+    #[tactic(auto, using(crate::proofs::Taking::accepted_then, crate::proofs::Taking::refused_first))]
     fn directory_record(&mut self, record: &Record<'_>) -> Result<(), ModuleFault>
-        ensures { RulesTake self.old self.new
+        ensures { RulesAccept self.old self.new
             (Directory ∷ map (λ entry. Entry entry) (record_entries «record».now)) result }
     {
         self.begin_directory()?;
@@ -241,7 +241,7 @@ impl Rules {
 
     // Reads the entries of a directory record one by one, and accepts each.
     fn each_entry(&mut self, record: &Record<'_>) -> Result<(), ModuleFault>
-        ensures { RulesTake self.old self.new (map (λ entry. Entry entry) (record_entries «record».now)) result }
+        ensures { RulesAccept self.old self.new (map (λ entry. Entry entry) (record_entries «record».now)) result }
     {
         'entries: for index in 0..record.entry_count() {
             self.entry(&record.entry(index))?;
@@ -329,9 +329,9 @@ impl Rules {
     }
 
     // Accepts a relocation record and its relocations.
-    #[tactic(auto, using(crate::proofs::Taking::taken_then, crate::proofs::Taking::refused_first))]
+    #[tactic(auto, using(crate::proofs::Taking::accepted_then, crate::proofs::Taking::refused_first))]
     fn relocations(&mut self, record: &Record<'_>) -> Result<(), ModuleFault>
-        ensures { RulesTake self.old self.new
+        ensures { RulesAccept self.old self.new
             (Relocations ∷ map (λ relocation. Relocated relocation) (record_relocations «record».now)) result }
     {
         self.begin_relocations()?;
@@ -351,7 +351,7 @@ impl Rules {
 
     // Reads the relocations of a record one by one, and accepts each.
     fn each_relocation(&mut self, record: &Record<'_>) -> Result<(), ModuleFault>
-        ensures { RulesTake self.old self.new (map (λ relocation. Relocated relocation) (record_relocations «record».now)) result }
+        ensures { RulesAccept self.old self.new (map (λ relocation. Relocated relocation) (record_relocations «record».now)) result }
     {
         'relocations: for relocation in record.each_relocation() {
             self.relocation(relocation)?;

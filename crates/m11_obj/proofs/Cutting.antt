@@ -4,7 +4,7 @@ use Rattle.std.proofs.Common.{◌≡◌, ℕ, ◌+◌, ◌<◌, ◌≤◌, zero,
 use Rattle.std.proofs.lemmas.Bool.{false≢true, true≢false}
 use Rattle.std.proofs.lemmas.List.{append-nil, length-append, take_all}
 use Rattle.std.proofs.Math.Seq.{take-append_seam, drop-append_seam}
-use Rattle.m11_obj.specs.Fronts.{longest_front, fronts_by, fronts_of, joined, TakesNoMore, AreLongest}
+use Rattle.m11_obj.specs.Fronts.{longest_front, fronts_by, fronts_of, joined, IsMaximal, AreLongest}
 
 z+-suc : (n : ℕ) → 0 + suc n ≡ suc n
 z+-suc n = omega arith
@@ -66,7 +66,7 @@ module _ {A : Type 0} (passes : List A → Bool) (nothing : passes [] ≡ false)
       ∙ ap (λ (m : ℕ). longest_front passes m whole) (one_fewer (length xs) n)
       ∙ longest-more x xs p ps one none n
 
-  longest : (x : A) (xs rest : List A) → passes (x ∷ xs) ≡ true → TakesNoMore passes (x ∷ xs) rest
+  longest : (x : A) (xs rest : List A) → passes (x ∷ xs) ≡ true → IsMaximal passes (x ∷ xs) rest
       → longest_front passes (length ((x ∷ xs) ++ rest)) ((x ∷ xs) ++ rest) ≡ x ∷ xs
   longest x xs [] one none =
       ap (λ (t : List A). longest_front passes (length t) t) (append-nil (x ∷ xs)) ∙ longest-end x xs one
@@ -93,7 +93,7 @@ module _ {A : Type 0} (passes : List A → Bool) (nothing : passes [] ≡ false)
 
   -- ---- one more item
 
-  no_less : (front xs ys : List A) → 0 < length xs → TakesNoMore passes front xs → TakesNoMore passes front (xs ++ ys)
+  no_less : (front xs ys : List A) → 0 < length xs → IsMaximal passes front xs → IsMaximal passes front (xs ++ ys)
   no_less front [] ys some h = absurd (omega arith)
   no_less front (x ∷ xs) ys some h = h
 
@@ -128,7 +128,7 @@ module _ {A : Type 0} (passes : List A → Bool) (nothing : passes [] ≡ false)
   grown [] front p h e = (e, tt, tt)
   grown (c ∷ closed) front p h e = (
     h.0,
-    subst (λ (t : List A). TakesNoMore passes c t) (sym (joined-grown closed front p))
+    subst (λ (t : List A). IsMaximal passes c t) (sym (joined-grown closed front p))
         (no_less c (joined (closed ++ front ∷ [])) (p ∷ [])
         (some_items closed front (is_some front (last_passes closed front h.2))) h.1),
     grown closed front p h.2 e,
@@ -139,7 +139,7 @@ module _ {A : Type 0} (passes : List A → Bool) (nothing : passes [] ≡ false)
   opened [] front p h e = (h.0, e, (alone p, tt, tt))
   opened (c ∷ closed) front p h e = (
     h.0,
-    subst (λ (t : List A). TakesNoMore passes c t) (sym (joined-opened closed front p))
+    subst (λ (t : List A). IsMaximal passes c t) (sym (joined-opened closed front p))
         (no_less c (joined (closed ++ front ∷ [])) (p ∷ [])
         (some_items closed front (is_some front (last_passes closed front h.2))) h.1),
     opened closed front p h.2 e,

@@ -20,7 +20,7 @@ use Rattle.m11_obj.specs.declared.pieces.PieceContent.TheVariants.{Byte, Word, L
 use Rattle.m11_obj.specs.Fronts.{fronts_of}
 use Rattle.m11_obj.specs.Pieces.{target_of, relocation, content_bytes, size_of, last_location, relocation_at, text_bytes, relocations_from, relocations_of}
 use Rattle.m11_obj.specs.Texts.{TextParts, follows, are_contiguous, is_one_text, cutting, location_after, text_of, texts_after, records_of, text_records}
-use Rattle.m11_obj.specs.OpenText.{relocations_in, takes_in, with_piece, last_section, IsOpenText, records_in}
+use Rattle.m11_obj.specs.OpenText.{relocations_in, has_room_for, with_piece, last_section, IsOpenText, records_in}
 use Rattle.m11_obj.proofs.Cutting.{first_front, the_last_passes, fronts-grown, fronts-opened}
 
 -- ---- bytes and relocations of pieces, one list of them after another
@@ -161,7 +161,7 @@ contiguous-push first (next ∷ rest) p e =
 
 takes_one : (before : Option (ℕ × ℕ)) (first : Piece) (rest : List Piece) (p : Piece)
     → is_one_text (first ∷ rest) ≡ true
-    → is_one_text ((first ∷ rest) ++ p ∷ []) ≡ takes_in (text_of before first rest) p
+    → is_one_text ((first ∷ rest) ++ p ∷ []) ≡ has_room_for (text_of before first rest) p
 unfolding is_one_text
 takes_one before first rest p e =
     let front = first ∷ rest in
@@ -248,7 +248,7 @@ begins pieces written p text h e = record {
 }
 
 pub goes_in : (pieces : List Piece) (written : List Content) (p : Piece) (text text' : TextParts)
-    → IsOpenText pieces written (Some text) → takes_in text p ≡ true → text' ≡ with_piece text p
+    → IsOpenText pieces written (Some text) → has_room_for text p ≡ true → text' ≡ with_piece text p
     → IsOpenText (pieces ++ p ∷ []) (written ++ []) (Some text')
 goes_in pieces written p text text' h takes e =
     let before = last_section None h.closed in
@@ -258,13 +258,13 @@ goes_in pieces written p text text' h takes e =
       first = h.first;
       rest = h.rest ++ p ∷ [];
       cut = fronts-grown is_one_text nothing beginning alone pieces h.closed (h.first ∷ h.rest) h.cut p
-          (takes_one before h.first h.rest p one ∙ ap (λ (t : TextParts). takes_in t p) (sym h.opened) ∙ takes);
+          (takes_one before h.first h.rest p one ∙ ap (λ (t : TextParts). has_room_for t p) (sym h.opened) ∙ takes);
       records = append-nil written ∙ h.records;
       opened = e ∙ ap (λ (t : TextParts). with_piece t p) h.opened ∙ text-push before h.first h.rest p;
     }
 
 pub closes : (pieces : List Piece) (written : List Content) (p : Piece) (text text' : TextParts)
-    → IsOpenText pieces written (Some text) → takes_in text p ≡ false → text' ≡ text_of (Some text.section) p []
+    → IsOpenText pieces written (Some text) → has_room_for text p ≡ false → text' ≡ text_of (Some text.section) p []
     → IsOpenText (pieces ++ p ∷ []) (written ++ records_in (Some text)) (Some text')
 closes pieces written p text text' h takes e =
     let before = last_section None h.closed in
@@ -274,7 +274,7 @@ closes pieces written p text text' h takes e =
       first = p;
       rest = [];
       cut = fronts-opened is_one_text nothing beginning alone pieces h.closed (h.first ∷ h.rest) h.cut p
-          (takes_one before h.first h.rest p one ∙ ap (λ (t : TextParts). takes_in t p) (sym h.opened) ∙ takes);
+          (takes_one before h.first h.rest p one ∙ ap (λ (t : TextParts). has_room_for t p) (sym h.opened) ∙ takes);
       records = ap (λ (t : List Content). t ++ records_in (Some text)) h.records
           ∙ ap (λ (t : TextParts). flat_map records_of (texts_after None h.closed) ++ (records_of t ++ [])) h.opened
           ∙ sym (records-split h.closed h.first h.rest);

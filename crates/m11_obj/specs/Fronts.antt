@@ -28,12 +28,12 @@ abbrev pub joined : {A : Type 0} → List (List A) → List A
 joined fronts = flat_map (λ front. front) fronts
 
 -- a front wouldn't pass the test with the next item added, if one is left
-abbrev pub TakesNoMore : {A : Type 0} → (List A → Bool) → List A → List A → Type 0
-TakesNoMore passes front [] = ⊤
-TakesNoMore passes front (next ∷ items) = passes (front ++ next ∷ []) ≡ false
+abbrev pub IsMaximal : {A : Type 0} → (List A → Bool) → List A → List A → Type 0
+IsMaximal passes front [] = ⊤
+IsMaximal passes front (next ∷ items) = passes (front ++ next ∷ []) ≡ false
 
 -- each front passes the test, and wouldn't with the next item added, if one is left
 abbrev pub AreLongest : {A : Type 0} → (List A → Bool) → List (List A) → Type 0
 AreLongest passes [] = ⊤
 AreLongest passes (front ∷ fronts) =
-    (passes front ≡ true) × TakesNoMore passes front (joined fronts) × AreLongest passes fronts
+    (passes front ≡ true) × IsMaximal passes front (joined fronts) × AreLongest passes fronts

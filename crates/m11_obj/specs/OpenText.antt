@@ -17,8 +17,8 @@ abbrev pub relocations_in : TextParts → Piece → List Relocation
 relocations_in text piece = option_to_list (relocation_at (4 + length text.bytes) piece.content)
 
 -- whether a text has room for a piece: the piece follows it directly, and both together stay within the limits
-abbrev pub takes_in : TextParts → Piece → Bool
-takes_in text piece = (is_same_name piece.section text.section && (piece.location == text.next))
+abbrev pub has_room_for : TextParts → Piece → Bool
+has_room_for text piece = (is_same_name piece.section text.section && (piece.location == text.next))
     && (nat_le (length text.bytes + size_of piece) most_bytes
     && nat_le (length (relocations_bytes text.relocations) + length (relocations_bytes (relocations_in text piece)))
     most_relocation_bytes)

@@ -5,7 +5,7 @@ ghost use Rattle.std.specs.Prelude.{◌≡◌, ◌+◌, ◌≤◌, [], ◌∷◌
 ghost use Rattle.std.specs.Option.{option_to_list};
 ghost use Rattle.m11_obj.specs.Relocations.{relocations_bytes};
 ghost use Rattle.m11_obj.specs.Blocks.{AreRecords};
-ghost use Rattle.m11_obj.specs.OpenText.{relocations_in, takes_in, with_piece};
+ghost use Rattle.m11_obj.specs.OpenText.{relocations_in, has_room_for, with_piece};
 ghost use Rattle.m11_obj.specs.Pieces.{size_of};
 ghost use Rattle.m11_obj.specs.RelocationList.{has_form};
 ghost use Rattle.m11_obj.specs.Texts.{most_bytes, most_relocation_bytes, text_of, is_in_section, selection, relocation_records, records_of};
@@ -95,7 +95,7 @@ impl Text {
 
     /// Whether a piece can be added to this text: it follows directly, and there is room for its bytes and its relocation.
     pub(crate) fn fits(&self, piece: &Piece) -> bool
-        ensures { result ≡ takes_in self.now piece.now }
+        ensures { result ≡ has_room_for self.now piece.now }
     {
         let is_next = piece.section.is_same(self.section) && u32::from(piece.location) == self.next;
         let size = self.bytes.len() + piece.content.byte_count();

@@ -55,15 +55,15 @@ unfolding block
 whole_block n end bytes is enough front last =
     let content : List ℕ = take (end - 4) (drop 4 bytes) in
     let counted : length content ≡ n =
-        length-take-le (end - 4) (drop 4 bytes) (omega (arith, length-drop 4 bytes)) ∙ omega arith in
+    length-take-le (end - 4) (drop 4 bytes) (omega (arith, length-drop 4 bytes)) ∙ omega arith in
     let sized : length content + 5 ≡ end + 1 = omega (arith, counted) in
     let ended : end ≡ 4 + (end - 4) = omega arith in
     let headed : take end bytes ≡ header (length content) ++ content =
-        ap (λ m. take m bytes) ended ∙ take-add 4 (end - 4) bytes ∙ ap (λ l. l ++ content) (front ∙ ap header (sym counted)) in (
-          counted,
-          ap (λ m. take m bytes) sized ∙ take_more bytes end 0 enough ∙ ap (λ l. l ++ slice_index bytes end ∷ []) headed
-          ∙ ap (λ b. (header (length content) ++ content) ++ b ∷ []) last
-        )
+    ap (λ m. take m bytes) ended ∙ take-add 4 (end - 4) bytes ∙ ap (λ l. l ++ content) (front ∙ ap header (sym counted)) in (
+      counted,
+      ap (λ m. take m bytes) sized ∙ take_more bytes end 0 enough ∙ ap (λ l. l ++ slice_index bytes end ∷ []) headed
+          ∙ ap (λ b. (header (length content) ++ content) ++ b ∷ []) last,
+    )
 
 -- the bytes of a whole block are read at once
 pub block_taken : (a b : Position) (content : List ℕ) → length content ≤ content_limit → Took a b (block content)

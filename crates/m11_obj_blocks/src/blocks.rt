@@ -9,7 +9,7 @@ ghost use Rattle.m11_obj_blocks.specs.Blocks.{first_block, IsCut, AreRead, Reads
 
 use crate::block_fault::BlockFault;
 use crate::frames::{Block, block_sum};
-use crate::limited::{Lack, MOST_BYTES, next_byte, next_word, take_ready};
+use crate::limited::{Lack, MOST_BYTES, next_byte, next_word, read_ready};
 use byteorder::{ByteOrder, LittleEndian};
 use m11_base::Feed;
 use std::marker::Model;
@@ -74,7 +74,7 @@ fn read_content<F: Feed>(
     let count = usize::from(count);
     'parts: while content.len() < count {
         let missing = count - content.len();
-        if take_ready(feed, room, content, missing) == 0 {
+        if read_ready(feed, room, content, missing) == 0 {
             let byte = next_byte(feed, room)?;
             content.push(byte);
         }
@@ -130,7 +130,7 @@ fn whole_content(bytes: &[u8]) -> Option<&[u8]>
 
 // Reads a block, and stores its content in place of the old one, if the whole block is ready, valid and within the limit. Otherwise
 // it reads nothing and returns false.
-fn take_block<F: Feed>(feed: &mut F, room: &mut u32, content: &mut Block) -> bool
+fn read_ready_block<F: Feed>(feed: &mut F, room: &mut u32, content: &mut Block) -> bool
     ensures reads { let old = position (F.text feed.old) (F.faults feed.old) room.old in
         let new = position (F.text feed.new) (F.faults feed.new) room.new in
         OnTrue result ((length content.new.items ≤ content_limit) × Took old new (block content.new.items)) }
@@ -198,7 +198,7 @@ fn read_block<F: Feed>(
     ensures { ReadsInto content.new.items (position (F.text feed.old) (F.faults feed.old) room.old)
         (position (F.text feed.new) (F.faults feed.new) room.new) result }
 {
-    if take_block(feed, room, content) {
+    if read_ready_block(feed, room, content) {
         return Ok(true);
     }
     read_parts(feed, room, content)

@@ -57,7 +57,7 @@ pub(crate) fn next_word<F: Feed>(feed: &mut F, room: &mut u32) -> Result<u16, La
 
 /// Moves ready bytes of a feed to the end of a block's content, at most `most` of them and only those within the limit. Returns the
 /// number of bytes moved, which is 0 if no byte is ready or none is within the limit.
-pub(crate) fn take_ready<F: Feed>(
+pub(crate) fn read_ready<F: Feed>(
     feed: &mut F,
     room: &mut u32,
     content: &mut Block,

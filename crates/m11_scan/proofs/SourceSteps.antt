@@ -10,7 +10,7 @@ use Rattle.m11_scan.specs.declared.sources.LineEnd.{LineEnd}
 use Rattle.m11_scan.specs.declared.sources.LineEnd.TheVariants.{LineFeed}
 use Rattle.m11_scan.specs.Lines.{cleaned, as_read}
 use Rattle.m11_scan.specs.OpenLine.{OpenLine, with_all}
-use Rattle.m11_scan.specs.Sources.{Source, source, Took, CameLast, StopsAt, TookReady, TookOf, TakesByte}
+use Rattle.m11_scan.specs.Sources.{Source, source, Took, CameLast, StopsAt, TookReady, TookOf, ConsumesByte}
 use Rattle.m11_scan.proofs.Runs.{free_then, with_all-append}
 
 -- ---- the bytes read from a feed
@@ -147,7 +147,7 @@ module _ (b : Bool) (text text' : Option Text) (faults faults' left left' : ℕ)
   abbrev after : Source
   after = source text' faults' left' line'
 
-  pub byte_taken : TakesByte b byte left left' line line' (Ok false) → Took b before after (byte ∷ [])
+  pub byte_taken : ConsumesByte b byte left left' line line' (Ok false) → Took b before after (byte ∷ [])
   byte_taken t = record {
     gave = gave_one text text' byte gave;
     faults = same;
@@ -160,10 +160,10 @@ module _ (b : Bool) (text text' : Option Text) (faults faults' left left' : ℕ)
   move_byte : (last : ℕ) → byte ≡ last → GivesByte text text' last
   move_byte last e = rw (← e) gave
 
-  pub line_feed_taken : TakesByte b byte left left' line line' (Ok true) → CameLast b before after (Ok LineFeed)
+  pub line_feed_taken : ConsumesByte b byte left left' line line' (Ok true) → CameLast b before after (Ok LineFeed)
   line_feed_taken t = (move_byte 10 t.2, same, t.0, t.1, t.3)
 
-  pub refused : (fault : LineFault) → TakesByte b byte left left' line line' (Err fault)
+  pub refused : (fault : LineFault) → ConsumesByte b byte left left' line line' (Err fault)
       → CameLast b before after (Err fault)
   refused Read t = absurd t
   refused TooMuchSource t = (byte, gave, same, t.0, t.1)

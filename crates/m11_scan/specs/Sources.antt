@@ -63,12 +63,12 @@ TookOf bytes old new count true = (given : Bytes) × (take count bytes ≡ given
 TookOf bytes old new count false = (count ≡ length bytes) × HasNoLineFeed bytes × (new ≡ with_all old bytes)
 
 -- one byte was read: a line feed, a byte of the line, or a byte past a limit
-abbrev pub TakesByte : Bool → ℕ → ℕ → ℕ → OpenLine → OpenLine → Result Bool LineFault → Type 0
-TakesByte may_begin byte left left' line line' (Ok true) =
+abbrev pub ConsumesByte : Bool → ℕ → ℕ → ℕ → OpenLine → OpenLine → Result Bool LineFault → Type 0
+ConsumesByte may_begin byte left left' line line' (Ok true) =
     (left ≡ 1 + left') × (line' ≡ line) × (byte ≡ 0o12) × (may_begin ≡ true)
-TakesByte may_begin byte left left' line line' (Ok false) = (left ≡ 1 + left') × (line' ≡ with_byte line byte)
+ConsumesByte may_begin byte left left' line line' (Ok false) = (left ≡ 1 + left') × (line' ≡ with_byte line byte)
     × ((byte == 0o12) ≡ false) × (may_begin ≡ false → (byte == 0) ≡ true)
-TakesByte may_begin byte left left' line line' (Err TooMuchSource) = (left ≡ 0) × (left' ≡ 0)
-TakesByte may_begin byte left left' line line' (Err TooManyLines) =
+ConsumesByte may_begin byte left left' line line' (Err TooMuchSource) = (left ≡ 0) × (left' ≡ 0)
+ConsumesByte may_begin byte left left' line line' (Err TooManyLines) =
     (left ≡ 1 + left') × ((byte == 0) ≡ false) × (may_begin ≡ false)
-TakesByte may_begin byte left left' line line' (Err Read) = ⊥
+ConsumesByte may_begin byte left left' line line' (Err Read) = ⊥

@@ -31,7 +31,7 @@ pub fn tokens_lie_in_order()
 /// an operator. Such an expression is a sequence of terms, with a sign or an operator between any two neighbours. A term may be an
 /// expression in brackets, and may have signs and prefixes before it.
 #[tactic(auto, using(crate::proofs::WrittenExpressions::written_length))]
-pub fn written_expressions_are_taken_whole()
+pub fn written_expressions_are_read_whole()
     ensures { (sorts rest : List Sort) → IsWritten false sorts → MayFollow rest
         → expression_length (sorts ++ rest) ≡ length sorts }
 {}

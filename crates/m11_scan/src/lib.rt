@@ -27,8 +27,8 @@ pub use fault::LineFault;
 mod line_laws;
 
 pub use line_laws::{
-    lines_of_parts_are_those_of_the_whole, lines_within_the_limit_are_kept_whole,
-    plain_lines_are_cut_as_they_stand,
+    lines_of_parts_are_those_of_the_whole, lines_within_the_limit_are_stored_whole,
+    plain_lines_are_cut_unchanged,
 };
 
 // RADIX-50 codes of characters, and the error flags of a line.
@@ -76,5 +76,5 @@ mod laws;
 
 pub use laws::{
     nested_brackets_are_read_whole, there_is_one_cut, tokens_lie_in_order,
-    written_expressions_are_taken_whole,
+    written_expressions_are_read_whole,
 };

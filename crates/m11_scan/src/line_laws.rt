@@ -16,7 +16,7 @@ pub fn lines_of_parts_are_those_of_the_whole()
 
 /// An input of lines without NULs, line feeds, form feeds or CRs, each followed by a line feed, is cut into exactly these lines.
 /// If more bytes without these characters follow the last line feed, they are left unclosed. The text of each line is the line unchanged.
-pub fn plain_lines_are_cut_as_they_stand()
+pub fn plain_lines_are_cut_unchanged()
     ensures cuts { (lines : List Bytes) (last : Bytes) → ArePlainTexts lines → IsPlainText last
         → cut (map (λ byte. Some byte) (written lines ++ last))
         ≡ record { lines = map with_line_feed lines; unclosed = last } }
@@ -25,7 +25,7 @@ pub fn plain_lines_are_cut_as_they_stand()
 {}
 
 /// A line of at most 132 characters is stored whole. Of a longer one the first 132 are stored, and it is marked as over-long.
-pub fn lines_within_the_limit_are_kept_whole()
+pub fn lines_within_the_limit_are_stored_whole()
     ensures whole { (line : Bytes) → length line ≤ line_limit → line_of line ≡ record { text = line; is_over_long = false } }
     ensures over_long { (line : Bytes) → line_limit < length line
         → line_of line ≡ record { text = take line_limit line; is_over_long = true } }

@@ -69,7 +69,7 @@ impl OpenLine {
     }
 
     /// Makes the trailing CR, if there is one, a character of the line.
-    pub(crate) fn keep_return(&mut self)
+    pub(crate) fn append_return(&mut self)
         ensures { self.new ≡ record { kept = with_return self.old; has_return = false } }
     {
         if self.has_return {
@@ -88,11 +88,11 @@ impl OpenLine {
         match byte {
             0 => {}
             b'\r' => {
-                self.keep_return();
+                self.append_return();
                 self.has_return = true;
             }
             _ => {
-                self.keep_return();
+                self.append_return();
                 self.kept.push_all(&[character(byte)]);
             }
         }
@@ -107,7 +107,7 @@ impl OpenLine {
         if count == 0 {
             return;
         }
-        self.keep_return();
+        self.append_return();
         self.kept.push_first(bytes, count);
     }
 

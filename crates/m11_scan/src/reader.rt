@@ -100,7 +100,7 @@ impl LineReader {
                     self.source += 1;
                     if !self.line.is_unbegun() {
                         self.lines_left -= 1;
-                        self.line.keep_return();
+                        self.line.append_return();
                         return Ok(true);
                     }
                 }

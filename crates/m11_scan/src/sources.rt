@@ -1,7 +1,7 @@
 //! Reads one source up to the end of a line.
 
 ghost use Rattle.std.specs.Prelude.{◌≤◌};
-ghost use Rattle.m11_scan.specs.Sources.{StopsAt, TakesByte, TookReady, source};
+ghost use Rattle.m11_scan.specs.Sources.{StopsAt, ConsumesByte, TookReady, source};
 
 use crate::fault::LineFault;
 use crate::open_line::OpenLine;
@@ -26,13 +26,13 @@ pub(crate) fn read_source<F: Feed>(
         (source (F.text feed.new) (F.faults feed.new) bytes_left.new line.new) result }
 {
     'bytes: loop {
-        if take_ready(feed, bytes_left, may_begin, line) {
+        if read_ready(feed, bytes_left, may_begin, line) {
             return Ok(LineEnd::LineFeed);
         }
         match feed.next() {
             Err(_) => return Err(LineFault::Read),
             Ok(None) => return Ok(LineEnd::SourceEnd),
-            Ok(Some(byte)) => match take_byte(byte, bytes_left, may_begin, line) {
+            Ok(Some(byte)) => match consume_byte(byte, bytes_left, may_begin, line) {
                 Ok(false) => {}
                 Ok(true) => return Ok(LineEnd::LineFeed),
                 Err(fault) => return Err(fault),
@@ -43,7 +43,7 @@ pub(crate) fn read_source<F: Feed>(
 
 // Reads ready bytes, at most `bytes_left`, up to the first line feed, and adds those before the line feed to the line. Subtracts their
 // number, including the line feed, from `bytes_left`. Reads none if no line may begin. Returns whether it read a line feed.
-fn take_ready<F: Feed>(
+fn read_ready<F: Feed>(
     feed: &mut F,
     bytes_left: &mut u32,
     may_begin: bool,
@@ -66,13 +66,13 @@ fn take_ready<F: Feed>(
 
 // Subtracts 1 from `bytes_left`, adds the byte to the line unless it is a NUL or a line feed, and returns whether it is a line
 // feed. Errors: `TooMuchSource` if `bytes_left` is 0, otherwise `TooManyLines` if no line may begin and the byte isn't a NUL.
-fn take_byte(
+fn consume_byte(
     byte: u8,
     bytes_left: &mut u32,
     may_begin: bool,
     line: &mut OpenLine,
 ) -> Result<bool, LineFault>
-    ensures { TakesByte may_begin byte bytes_left.old bytes_left.new line.old line.new result }
+    ensures { ConsumesByte may_begin byte bytes_left.old bytes_left.new line.old line.new result }
 {
     if *bytes_left == 0 {
         return Err(LineFault::TooMuchSource);

@@ -92,7 +92,7 @@ module _ (radix : Radix) (mark : Item) (term : List Item) where
 
 -- ---- a radix before brackets
 
-pub decimal_sum : (radix : Radix) (stands_for : Symbol → Quantity)
-    → value_of radix (map (item stands_for) (tokens_of (codes "^D<10+10>"))) ≡ absolute 0o24 0
+pub decimal_sum : (radix : Radix) (value_of_symbol : Symbol → Quantity)
+    → value_of radix (map (item value_of_symbol) (tokens_of (codes "^D<10+10>"))) ≡ absolute 0o24 0
 unfolding value_of first_piece
-decimal_sum radix stands_for = refl
+decimal_sum radix value_of_symbol = refl

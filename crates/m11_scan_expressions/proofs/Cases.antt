@@ -93,48 +93,48 @@ same_packed (x ∷ z ∷ a) (y ∷ w ∷ b) h =
     ap (λ (n : ℕ). absolute n (packed_flags a)) (same_word a b rest)
     ∙ ap (λ (n : ℕ). absolute (packed_word b) n) (same_flags a b rest)
 
-same_atom : (stands_for : Symbol → Quantity) (sort : Sort) (a b : List ℕ) → IsSameText sort a b
-    → atom_of stands_for sort a ≡ atom_of stands_for sort b
-same_atom stands_for Name a b h =
-    ap (λ (symbol : Option Symbol). Fixed (unwrap_or (option_map stands_for symbol) missing)) (same_symbol a b h)
-same_atom stands_for Number a b h = ap (λ (t : List ℕ). atom_of stands_for Number t) h
-same_atom stands_for DecimalNumber a b h = ap (λ (t : List ℕ). atom_of stands_for DecimalNumber t) h
-same_atom stands_for LocalSymbol a b h = ap (λ (t : List ℕ). atom_of stands_for LocalSymbol t) h
-same_atom stands_for Character a b h = ap (λ (t : List ℕ). atom_of stands_for Character t) h
-same_atom stands_for TwoCharacters a b h = ap (λ (t : List ℕ). atom_of stands_for TwoCharacters t) h
-same_atom stands_for Packed a b h = ap (λ (v : Quantity). Fixed v) (same_packed a b h)
-same_atom stands_for BinaryRadix a b h = refl
-same_atom stands_for OctalRadix a b h = refl
-same_atom stands_for DecimalRadix a b h = refl
-same_atom stands_for Complement a b h = refl
-same_atom stands_for Plus a b h = refl
-same_atom stands_for Minus a b h = refl
-same_atom stands_for Times a b h = refl
-same_atom stands_for Over a b h = refl
-same_atom stands_for And a b h = refl
-same_atom stands_for Or a b h = refl
-same_atom stands_for Less a b h = refl
-same_atom stands_for Greater a b h = refl
-same_atom stands_for Percent a b h = refl
-same_atom stands_for NumberSign a b h = refl
-same_atom stands_for At a b h = refl
-same_atom stands_for Open a b h = refl
-same_atom stands_for Close a b h = refl
-same_atom stands_for Comma a b h = refl
-same_atom stands_for Colon a b h = refl
-same_atom stands_for TwoColons a b h = refl
-same_atom stands_for Equals a b h = refl
-same_atom stands_for TwoEquals a b h = refl
+same_atom : (value_of_symbol : Symbol → Quantity) (sort : Sort) (a b : List ℕ) → IsSameText sort a b
+    → atom_of value_of_symbol sort a ≡ atom_of value_of_symbol sort b
+same_atom value_of_symbol Name a b h =
+    ap (λ (symbol : Option Symbol). Fixed (unwrap_or (option_map value_of_symbol symbol) missing)) (same_symbol a b h)
+same_atom value_of_symbol Number a b h = ap (λ (t : List ℕ). atom_of value_of_symbol Number t) h
+same_atom value_of_symbol DecimalNumber a b h = ap (λ (t : List ℕ). atom_of value_of_symbol DecimalNumber t) h
+same_atom value_of_symbol LocalSymbol a b h = ap (λ (t : List ℕ). atom_of value_of_symbol LocalSymbol t) h
+same_atom value_of_symbol Character a b h = ap (λ (t : List ℕ). atom_of value_of_symbol Character t) h
+same_atom value_of_symbol TwoCharacters a b h = ap (λ (t : List ℕ). atom_of value_of_symbol TwoCharacters t) h
+same_atom value_of_symbol Packed a b h = ap (λ (v : Quantity). Fixed v) (same_packed a b h)
+same_atom value_of_symbol BinaryRadix a b h = refl
+same_atom value_of_symbol OctalRadix a b h = refl
+same_atom value_of_symbol DecimalRadix a b h = refl
+same_atom value_of_symbol Complement a b h = refl
+same_atom value_of_symbol Plus a b h = refl
+same_atom value_of_symbol Minus a b h = refl
+same_atom value_of_symbol Times a b h = refl
+same_atom value_of_symbol Over a b h = refl
+same_atom value_of_symbol And a b h = refl
+same_atom value_of_symbol Or a b h = refl
+same_atom value_of_symbol Less a b h = refl
+same_atom value_of_symbol Greater a b h = refl
+same_atom value_of_symbol Percent a b h = refl
+same_atom value_of_symbol NumberSign a b h = refl
+same_atom value_of_symbol At a b h = refl
+same_atom value_of_symbol Open a b h = refl
+same_atom value_of_symbol Close a b h = refl
+same_atom value_of_symbol Comma a b h = refl
+same_atom value_of_symbol Colon a b h = refl
+same_atom value_of_symbol TwoColons a b h = refl
+same_atom value_of_symbol Equals a b h = refl
+same_atom value_of_symbol TwoEquals a b h = refl
 
-same_items : (stands_for : Symbol → Quantity) {first second : List Lexeme} → AreSame first second
-    → map (item stands_for) first ≡ map (item stands_for) second
-same_items stands_for NoToken = refl
-same_items stands_for (OneMore first second firsts seconds sort text same) =
-    ap (λ (a : Atom). with_atom first.sort a (map (item stands_for) firsts))
-    (same_atom stands_for first.sort first.text second.text text)
-    ∙ ap (λ (s : Sort). with_atom s (atom_of stands_for s second.text) (map (item stands_for) firsts)) sort
-    ∙ ap (λ (l : List Item). item stands_for second ∷ l) (same_items stands_for same)
+same_items : (value_of_symbol : Symbol → Quantity) {first second : List Lexeme} → AreSame first second
+    → map (item value_of_symbol) first ≡ map (item value_of_symbol) second
+same_items value_of_symbol NoToken = refl
+same_items value_of_symbol (OneMore first second firsts seconds sort text same) =
+    ap (λ (a : Atom). with_atom first.sort a (map (item value_of_symbol) firsts))
+    (same_atom value_of_symbol first.sort first.text second.text text)
+    ∙ ap (λ (s : Sort). with_atom s (atom_of value_of_symbol s second.text) (map (item value_of_symbol) firsts)) sort
+    ∙ ap (λ (l : List Item). item value_of_symbol second ∷ l) (same_items value_of_symbol same)
 
-pub same_values : (radix : Radix) (stands_for : Symbol → Quantity) (first second : List Lexeme) → AreSame first second
-    → value_of radix (map (item stands_for) first) ≡ value_of radix (map (item stands_for) second)
-same_values radix stands_for first second same = ap (λ (l : List Item). value_of radix l) (same_items stands_for same)
+pub same_values : (radix : Radix) (value_of_symbol : Symbol → Quantity) (first second : List Lexeme) → AreSame first second
+    → value_of radix (map (item value_of_symbol) first) ≡ value_of radix (map (item value_of_symbol) second)
+same_values radix value_of_symbol first second same = ap (λ (l : List Item). value_of radix l) (same_items value_of_symbol same)

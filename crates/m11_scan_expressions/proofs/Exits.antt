@@ -103,28 +103,28 @@ module _ (in_bracket : Bool) where
 
 -- ---- an expression, and terms with prefixes
 
-module _ (stands_for : Symbol → Quantity) (line : List ℕ) (in_bracket : Bool) (radix : Radix) where
-  sorts_seen : (tokens : List Token) → sorts_of (items_of stands_for line tokens) ≡ map sort_of tokens
+module _ (value_of_symbol : Symbol → Quantity) (line : List ℕ) (in_bracket : Bool) (radix : Radix) where
+  sorts_seen : (tokens : List Token) → sorts_of (items_of value_of_symbol line tokens) ≡ map sort_of tokens
   sorts_seen [] = refl
   sorts_seen (token ∷ tokens) = ap (λ (sorts : List Sort). token.sort ∷ sorts) (sorts_seen tokens)
 
   -- the first `count` of these tokens were read, and have this value
   abbrev pub ReadsOf : List Token → ℕ → Quantity → Type 0
   ReadsOf tokens count value =
-      Reads in_bracket radix (take count (items_of stands_for line tokens)) (drop count (items_of stands_for line tokens)) value
+      Reads in_bracket radix (take count (items_of value_of_symbol line tokens)) (drop count (items_of value_of_symbol line tokens)) value
 
   pub first_exit : (tokens : List Token) (count : ℕ) (value : Quantity) → count ≡ term_length in_bracket begin (map sort_of tokens)
-      → value ≡ value_as_term radix (items_of stands_for line (take count tokens)) → ReadsOf tokens count value
+      → value ≡ value_as_term radix (items_of value_of_symbol line (take count tokens)) → ReadsOf tokens count value
   first_exit tokens count value is value_is =
-      reads_first in_bracket radix (items_of stands_for line tokens) count value
+      reads_first in_bracket radix (items_of value_of_symbol line tokens) count value
       (is ∙ ap (λ (l : List Sort). term_length in_bracket begin l) (sym (sorts_seen tokens)))
-      (value_is ∙ ap (λ (l : List Item). value_as_term radix l) (sym (take-map (seen stands_for line) count tokens)))
+      (value_is ∙ ap (λ (l : List Item). value_as_term radix l) (sym (take-map (seen value_of_symbol line) count tokens)))
 
   back_is : (count : ℕ) (tokens : List Token)
-      → items_of stands_for line (rest_from count tokens) ≡ drop count (items_of stands_for line tokens)
+      → items_of value_of_symbol line (rest_from count tokens) ≡ drop count (items_of value_of_symbol line tokens)
   back_is count tokens =
-      ap (λ (l : List Token). items_of stands_for line l) (take_rest tokens count)
-      ∙ sym (drop-map (seen stands_for line) count tokens)
+      ap (λ (l : List Token). items_of value_of_symbol line l) (take_rest tokens count)
+      ∙ sym (drop-map (seen value_of_symbol line) count tokens)
 
   -- the tokens after an operator
   one_less : (count : ℕ) (tokens : List Token) (mark : Token) (back : List Token) → drop count tokens ≡ mark ∷ back
@@ -138,80 +138,80 @@ module _ (stands_for : Symbol → Quantity) (line : List ℕ) (in_bracket : Bool
   next_from : (tokens : List Token) (count more : ℕ) (operator : Operator) (value next result : Quantity) (found : List Token)
       → drop count tokens ≡ found → ReadsOf tokens count value → Some operator ≡ operator_after (map sort_of found)
       → more ≡ term_length in_bracket begin (map sort_of (drop (count + 1) tokens))
-      → next ≡ value_as_term radix (items_of stands_for line (take more (drop (count + 1) tokens)))
+      → next ≡ value_as_term radix (items_of value_of_symbol line (take more (drop (count + 1) tokens)))
       → result ≡ combined operator value next → ReadsOf tokens (count + (more + 1)) result
   next_from tokens count more operator value next result [] found reads is more_is next_is result_is = absurd (cc)
   next_from tokens count more operator value next result (mark ∷ back) found reads is more_is next_is result_is =
       let P : Quantity → Type 0 = λ v. ReadsOf tokens (count + (more + 1)) v in
       let rest : drop (count + 1) tokens ≡ back = one_less count tokens mark back found in
-      let items : drop count (items_of stands_for line tokens) ≡ seen stands_for line mark ∷ items_of stands_for line back =
-      drop-map (seen stands_for line) count tokens ∙ ap (λ (l : List Token). items_of stands_for line l) found in
+      let items : drop count (items_of value_of_symbol line tokens) ≡ seen value_of_symbol line mark ∷ items_of value_of_symbol line back =
+      drop-map (seen value_of_symbol line) count tokens ∙ ap (λ (l : List Token). items_of value_of_symbol line l) found in
       subst P (sym result_is)
-      (reads_next in_bracket radix (items_of stands_for line tokens) count more (seen stands_for line mark)
-      (items_of stands_for line back) operator value next reads items (sym is)
+      (reads_next in_bracket radix (items_of value_of_symbol line tokens) count more (seen value_of_symbol line mark)
+      (items_of value_of_symbol line back) operator value next reads items (sym is)
       (more_is ∙ ap (λ (l : List Token). term_length in_bracket begin (map sort_of l)) rest
       ∙ ap (λ (l : List Sort). term_length in_bracket begin l) (sym (sorts_seen back)))
-      (next_is ∙ ap (λ (l : List Token). value_as_term radix (items_of stands_for line (take more l))) rest
-      ∙ ap (λ (l : List Item). value_as_term radix l) (sym (take-map (seen stands_for line) more back))))
+      (next_is ∙ ap (λ (l : List Token). value_as_term radix (items_of value_of_symbol line (take more l))) rest
+      ∙ ap (λ (l : List Item). value_as_term radix l) (sym (take-map (seen value_of_symbol line) more back))))
 
   pub next_exit : (tokens : List Token) (count more : ℕ) (operator : Operator) (value next result : Quantity)
       → ReadsOf tokens count value → Some operator ≡ operator_after (map sort_of (rest_from count tokens))
       → more ≡ term_length in_bracket begin (map sort_of (rest_from (count + 1) tokens))
-      → next ≡ value_as_term radix (items_of stands_for line (take more (rest_from (count + 1) tokens)))
+      → next ≡ value_as_term radix (items_of value_of_symbol line (take more (rest_from (count + 1) tokens)))
       → result ≡ combined operator value next → ReadsOf tokens (count + (more + 1)) result
   next_exit tokens count more operator value next result reads is more_is next_is result_is =
       let rest = take_rest tokens (count + 1) in
       next_from tokens count more operator value next result (drop count tokens) refl reads
       (is ∙ ap (λ (l : List Token). operator_after (map sort_of l)) (take_rest tokens count))
       (more_is ∙ ap (λ (l : List Token). term_length in_bracket begin (map sort_of l)) rest)
-      (next_is ∙ ap (λ (l : List Token). value_as_term radix (items_of stands_for line (take more l))) rest) result_is
+      (next_is ∙ ap (λ (l : List Token). value_as_term radix (items_of value_of_symbol line (take more l))) rest) result_is
 
   pub length_exit : (tokens : List Token) (count : ℕ) (value : Quantity) → ReadsOf tokens count value → count ≤ length tokens
       → None ≡ operator_after (map sort_of (rest_from count tokens)) → count ≡ part_length in_bracket 0 (map sort_of tokens)
   length_exit tokens count value reads le none =
-      let size = length-map tokens (seen stands_for line) in
-      let within : count ≤ length (items_of stands_for line tokens) = omega arith in
-      reads_all in_bracket radix (items_of stands_for line tokens) count value reads within
+      let size = length-map tokens (seen value_of_symbol line) in
+      let within : count ≤ length (items_of value_of_symbol line tokens) = omega arith in
+      reads_all in_bracket radix (items_of value_of_symbol line tokens) count value reads within
       (ap (λ (l : List Item). operator_after (sorts_of l)) (sym (back_is count tokens))
       ∙ ap (λ (l : List Sort). operator_after l) (sorts_seen (rest_from count tokens)) ∙ sym none)
       ∙ ap (λ (l : List Sort). part_length in_bracket 0 l) (sorts_seen tokens)
 
   pub value_exit : (tokens : List Token) (count : ℕ) (value : Quantity) → ReadsOf tokens count value
-      → value ≡ value_of radix (items_of stands_for line (take count tokens))
+      → value ≡ value_of radix (items_of value_of_symbol line (take count tokens))
   value_exit tokens count value reads =
-      reads.value_is ∙ ap (λ (l : List Item). value_of radix l) (take-map (seen stands_for line) count tokens)
+      reads.value_is ∙ ap (λ (l : List Item). value_of radix l) (take-map (seen value_of_symbol line) count tokens)
 
   pub one_token : (all : List Token) (default : Token) (count : ℕ) (result : Quantity) → 1 ≤ length all
       → is_term (role_of (get_or all 0 default).sort) ≡ true
-      → result ≡ atom_value radix (seen stands_for line (get_or all 0 default)).atom
-      → result ≡ value_as_term radix (items_of stands_for line (take (1 + count) all))
+      → result ≡ atom_value radix (seen value_of_symbol line (get_or all 0 default)).atom
+      → result ≡ value_as_term radix (items_of value_of_symbol line (take (1 + count) all))
   one_token [] default count result one term r = absurd (omega arith)
   one_token (token ∷ more) default count result one term r =
       r
-      ∙ ap (λ (p : Option Prefix). term_value value_of radix (seen stands_for line token) (items_of stands_for line (take count more)) p)
+      ∙ ap (λ (p : Option Prefix). term_value value_of radix (seen value_of_symbol line token) (items_of value_of_symbol line (take count more)) p)
       (sym (term_prefix token.sort term))
-      ∙ ap (λ (n : ℕ). value_as_term radix (items_of stands_for line (take n (token ∷ more)))) (sym (one_and count))
+      ∙ ap (λ (n : ℕ). value_as_term radix (items_of value_of_symbol line (take n (token ∷ more)))) (sym (one_and count))
 
   plain_part : (token : Token) (more : List Token) (prefix : Prefix) (count : ℕ) (value result : Quantity) (under : Radix)
       → Some prefix ≡ prefix_of token.sort → IsPlain prefix → under ≡ radix_under prefix radix
       → count ≡ term_length in_bracket begin (map sort_of more)
-      → value ≡ value_as_term under (items_of stands_for line (take count more))
+      → value ≡ value_as_term under (items_of value_of_symbol line (take count more))
       → result ≡ applied prefix false value
-      → result ≡ value_as_term radix (items_of stands_for line (token ∷ take count more))
+      → result ≡ value_as_term radix (items_of value_of_symbol line (token ∷ take count more))
   plain_part token more prefix count value result under found plain u is v r =
-      let P : ℕ → Type 0 = λ n. TermOf in_bracket begin (items_of stands_for line more) n in
-      let term : TermOf in_bracket begin (items_of stands_for line more) count =
+      let P : ℕ → Type 0 = λ n. TermOf in_bracket begin (items_of value_of_symbol line more) n in
+      let term : TermOf in_bracket begin (items_of value_of_symbol line more) count =
       subst P (sym (is ∙ ap (λ (l : List Sort). term_length in_bracket begin l) (sym (sorts_seen more))))
-      (term_of in_bracket begin (items_of stands_for line more)) in
-      let taken : take count (items_of stands_for line more) ≡ items_of stands_for line (take count more) =
-      take-map (seen stands_for line) count more in
+      (term_of in_bracket begin (items_of value_of_symbol line more)) in
+      let taken : take count (items_of value_of_symbol line more) ≡ items_of value_of_symbol line (take count more) =
+      take-map (seen value_of_symbol line) count more in
       r
       ∙ ap (λ (q : Quantity). applied prefix false q)
       (v ∙ ap (λ (l : List Item). value_as_term under l) (sym taken)
-      ∙ sym (as_term under (take count (items_of stands_for line more)) term.none)
+      ∙ sym (as_term under (take count (items_of value_of_symbol line more)) term.none)
       ∙ ap (λ (l : List Item). value_of under l) taken
-      ∙ ap (λ (x : Radix). value_of x (items_of stands_for line (take count more))) u)
-      ∙ sym (plain_term radix (seen stands_for line token) (items_of stands_for line (take count more)) prefix (sym found) plain)
+      ∙ ap (λ (x : Radix). value_of x (items_of value_of_symbol line (take count more))) u)
+      ∙ sym (plain_term radix (seen value_of_symbol line token) (items_of value_of_symbol line (take count more)) prefix (sym found) plain)
 
   pub plain_exit : (tokens : List Token) (default : Token) (prefix : Prefix) (count : ℕ) (value result : Quantity) (under : Radix)
       → 1 ≤ length tokens
@@ -219,55 +219,55 @@ module _ (stands_for : Symbol → Quantity) (line : List ℕ) (in_bracket : Bool
       → (prefix ≡ Bracket → ⊥)
       → under ≡ radix_under prefix radix
       → count ≡ term_length in_bracket begin (map sort_of (rest_of tokens))
-      → value ≡ value_as_term under (items_of stands_for line (take count (rest_of tokens)))
+      → value ≡ value_as_term under (items_of value_of_symbol line (take count (rest_of tokens)))
       → result ≡ applied prefix false value
-      → result ≡ value_as_term radix (items_of stands_for line (take (1 + count) tokens))
+      → result ≡ value_as_term radix (items_of value_of_symbol line (take (1 + count) tokens))
   plain_exit [] default prefix count value result under one found other u is v r = absurd (omega arith)
   plain_exit (token ∷ more) default prefix count value result under one found other u is v r =
       let rest : rest_of (token ∷ more) ≡ more = take_rest (token ∷ more) 1 in
       plain_part token more prefix count value result under found (no_bracket prefix other) u
       (is ∙ ap (λ (l : List Token). term_length in_bracket begin (map sort_of l)) rest)
-      (v ∙ ap (λ (l : List Token). value_as_term under (items_of stands_for line (take count l))) rest) r
-      ∙ ap (λ (n : ℕ). value_as_term radix (items_of stands_for line (take n (token ∷ more)))) (sym (one_and count))
+      (v ∙ ap (λ (l : List Token). value_as_term under (items_of value_of_symbol line (take count l))) rest) r
+      ∙ ap (λ (n : ℕ). value_as_term radix (items_of value_of_symbol line (take n (token ∷ more)))) (sym (one_and count))
 
   bracket_part : (token : Token) (more : List Token) (inside count : ℕ) (value result : Quantity)
       → prefix_of token.sort ≡ Some Bracket
       → inside ≡ bracket_length 0 (map sort_of more)
-      → value ≡ value_of radix (items_of stands_for line (take inside more))
+      → value ≡ value_of radix (items_of value_of_symbol line (take inside more))
       → count ≡ term_length in_bracket opened (map sort_of more)
       → result ≡ applied Bracket (nat_lt inside (length more)) value
-      → result ≡ value_as_term radix (items_of stands_for line (token ∷ take count more))
+      → result ≡ value_as_term radix (items_of value_of_symbol line (token ∷ take count more))
   bracket_part token more inside count value result found is v count_is r =
-      let sorts : sorts_of (items_of stands_for line more) ≡ map sort_of more = sorts_seen more in
-      let reached : inside ≡ bracket_length 0 (sorts_of (items_of stands_for line more)) =
+      let sorts : sorts_of (items_of value_of_symbol line more) ≡ map sort_of more = sorts_seen more in
+      let reached : inside ≡ bracket_length 0 (sorts_of (items_of value_of_symbol line more)) =
       is ∙ ap (λ (s : List Sort). bracket_length 0 s) (sym sorts) in
-      let size : length more ≡ length (items_of stands_for line more) = sym (length-map more (seen stands_for line)) in
+      let size : length more ≡ length (items_of value_of_symbol line more) = sym (length-map more (seen value_of_symbol line)) in
       r
       ∙ ap (λ (n : ℕ). applied Bracket (nat_lt inside n) value) size
-      ∙ ap (λ (q : Quantity). applied Bracket (nat_lt inside (length (items_of stands_for line more))) q)
-      (v ∙ ap (λ (l : List Item). value_of radix l) (sym (take-map (seen stands_for line) inside more)))
-      ∙ ap (λ (n : ℕ). applied Bracket (nat_lt n (length (items_of stands_for line more)))
-      (value_of radix (take n (items_of stands_for line more)))) reached
-      ∙ sym (bracket_value in_bracket radix (seen stands_for line token) (items_of stands_for line more) count found
+      ∙ ap (λ (q : Quantity). applied Bracket (nat_lt inside (length (items_of value_of_symbol line more))) q)
+      (v ∙ ap (λ (l : List Item). value_of radix l) (sym (take-map (seen value_of_symbol line) inside more)))
+      ∙ ap (λ (n : ℕ). applied Bracket (nat_lt n (length (items_of value_of_symbol line more)))
+      (value_of radix (take n (items_of value_of_symbol line more)))) reached
+      ∙ sym (bracket_value in_bracket radix (seen value_of_symbol line token) (items_of value_of_symbol line more) count found
       (count_is ∙ ap (λ (s : List Sort). term_length in_bracket opened s) (sym sorts)))
-      ∙ ap (λ (l : List Item). value_as_term radix (seen stands_for line token ∷ l)) (take-map (seen stands_for line) count more)
+      ∙ ap (λ (l : List Item). value_as_term radix (seen value_of_symbol line token ∷ l)) (take-map (seen value_of_symbol line) count more)
 
   pub bracket_exit : (tokens : List Token) (default : Token) (prefix : Prefix) (inside count : ℕ) (value result : Quantity)
       → 1 ≤ length tokens
       → Some prefix ≡ prefix_of (get_or tokens 0 default).sort
       → prefix ≡ Bracket
       → inside ≡ bracket_length 0 (map sort_of (rest_of tokens))
-      → value ≡ value_of radix (items_of stands_for line (take inside (rest_of tokens)))
+      → value ≡ value_of radix (items_of value_of_symbol line (take inside (rest_of tokens)))
       → count ≡ term_length in_bracket opened (map sort_of (rest_of tokens))
       → result ≡ applied prefix (nat_lt inside (length (rest_of tokens))) value
-      → result ≡ value_as_term radix (items_of stands_for line (take (1 + count) tokens))
+      → result ≡ value_as_term radix (items_of value_of_symbol line (take (1 + count) tokens))
   bracket_exit [] default prefix inside count value result one found bracket is v count_is r = absurd (omega arith)
   bracket_exit (token ∷ more) default prefix inside count value result one found bracket is v count_is r =
       let rest : rest_of (token ∷ more) ≡ more = take_rest (token ∷ more) 1 in
       bracket_part token more inside count value result (sym found ∙ ap (λ (p : Prefix). Some p) bracket)
       (is ∙ ap (λ (l : List Token). bracket_length 0 (map sort_of l)) rest)
-      (v ∙ ap (λ (l : List Token). value_of radix (items_of stands_for line (take inside l))) rest)
+      (v ∙ ap (λ (l : List Token). value_of radix (items_of value_of_symbol line (take inside l))) rest)
       (count_is ∙ ap (λ (l : List Token). term_length in_bracket opened (map sort_of l)) rest)
       (r ∙ ap (λ (p : Prefix). applied p (nat_lt inside (length (rest_of (token ∷ more)))) value) bracket
       ∙ ap (λ (l : List Token). applied Bracket (nat_lt inside (length l)) value) rest)
-      ∙ ap (λ (n : ℕ). value_as_term radix (items_of stands_for line (take n (token ∷ more)))) (sym (one_and count))
+      ∙ ap (λ (n : ℕ). value_as_term radix (items_of value_of_symbol line (take n (token ∷ more)))) (sym (one_and count))

@@ -14,11 +14,11 @@ use Rattle.m11_scan_expressions.specs.Tokens.{plain}
 use Rattle.m11_scan_expressions.specs.Values.{items_of, seen, value_of}
 use Rattle.m11_scan_expressions.specs.Expressions.{symbols}
 
-items_seen : (stands_for : Symbol → Quantity) (line : Bytes) (tokens : List Token)
-    → items_of stands_for line tokens ≡ map (plain_item stands_for) (map plain (map (lexeme line) tokens))
-items_seen stands_for line [] = refl
-items_seen stands_for line (token ∷ tokens) =
-    ap (λ (l : List Item). seen stands_for line token ∷ l) (items_seen stands_for line tokens)
+items_seen : (value_of_symbol : Symbol → Quantity) (line : Bytes) (tokens : List Token)
+    → items_of value_of_symbol line tokens ≡ map (plain_item value_of_symbol) (map plain (map (lexeme line) tokens))
+items_seen value_of_symbol line [] = refl
+items_seen value_of_symbol line (token ∷ tokens) =
+    ap (λ (l : List Item). seen value_of_symbol line token ∷ l) (items_seen value_of_symbol line tokens)
 
 each_symbol : (line : Bytes) (tokens : List Token) → symbols_of line tokens ≡ symbols (map plain (map (lexeme line) tokens))
 each_symbol line [] = refl
@@ -26,12 +26,12 @@ each_symbol line (token ∷ tokens) =
     ap (λ (l : List Symbol). cons_option (symbol_in token.sort (text_between line token.start token.end)) l) (each_symbol line tokens)
 
 -- tokens of the code have the value of the expression that they represent
-pub value_seen : (radix : Radix) (stands_for : Symbol → Quantity) (line : Bytes) (tokens : List Token) (all : List Lexeme)
+pub value_seen : (radix : Radix) (value_of_symbol : Symbol → Quantity) (line : Bytes) (tokens : List Token) (all : List Lexeme)
     → map (lexeme line) tokens ≡ all
-    → value_of radix (items_of stands_for line tokens) ≡ value_of radix (map (plain_item stands_for) (map plain all))
-value_seen radix stands_for line tokens all same =
+    → value_of radix (items_of value_of_symbol line tokens) ≡ value_of radix (map (plain_item value_of_symbol) (map plain all))
+value_seen radix value_of_symbol line tokens all same =
     ap (λ (l : List Item). value_of radix l)
-    (items_seen stands_for line tokens ∙ ap (λ (l : List Lexeme). map (plain_item stands_for) (map plain l)) same)
+    (items_seen value_of_symbol line tokens ∙ ap (λ (l : List Lexeme). map (plain_item value_of_symbol) (map plain l)) same)
 
 -- tokens of the code have the symbols of the expression that they represent
 pub symbols_seen : (line : Bytes) (tokens : List Token) (all : List Lexeme) → map (lexeme line) tokens ≡ all

@@ -21,14 +21,14 @@ use Rattle.m11_scan_expressions.specs.LeftOvers.{skip_flags}
 -- what an expression is evaluated with: the radix, and the value of each symbol
 pub record KnownSymbols : Type 0 where
   pub radix : Radix
-  pub stands_for : Symbol → Quantity
+  pub value_of_symbol : Symbol → Quantity
 
 abbrev pub known_by : Radix → (Symbol → Quantity) → KnownSymbols
-known_by radix stands_for = record { radix = radix; stands_for = stands_for }
+known_by radix value_of_symbol = record { radix = radix; value_of_symbol = value_of_symbol }
 
 -- the value of an expression
 abbrev pub value : KnownSymbols → Expression → Quantity
-value known tokens = value_of known.radix (map (plain_item known.stands_for) tokens)
+value known tokens = value_of known.radix (map (plain_item known.value_of_symbol) tokens)
 
 -- the number of an expression's value, whatever its kind
 abbrev pub number : KnownSymbols → Expression → ℕ

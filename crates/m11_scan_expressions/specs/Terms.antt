@@ -77,18 +77,18 @@ packed text = missing
 
 -- a token of this sort and text as a term; a token that isn't a term counts as a missing one
 abbrev pub atom_of : (Symbol → Quantity) → Sort → Bytes → Atom
-atom_of stands_for sorts.Name text = Fixed (unwrap_or (option_map stands_for (name_symbol text)) missing)
-atom_of stands_for sorts.LocalSymbol text =
-    Fixed (unwrap_or (option_map stands_for (local_symbol (front_of text))) (absolute 0 flag_A))
-atom_of stands_for sorts.Number text = Digits text
-atom_of stands_for sorts.DecimalNumber text = Fixed (number Decimal (front_of text))
-atom_of stands_for sorts.Character text = Fixed (character text)
-atom_of stands_for sorts.TwoCharacters text = Fixed (two_characters text)
-atom_of stands_for sorts.Packed text = Fixed (packed text)
-atom_of stands_for sort text = Fixed missing
+atom_of value_of_symbol sorts.Name text = Fixed (unwrap_or (option_map value_of_symbol (name_symbol text)) missing)
+atom_of value_of_symbol sorts.LocalSymbol text =
+    Fixed (unwrap_or (option_map value_of_symbol (local_symbol (front_of text))) (absolute 0 flag_A))
+atom_of value_of_symbol sorts.Number text = Digits text
+atom_of value_of_symbol sorts.DecimalNumber text = Fixed (number Decimal (front_of text))
+atom_of value_of_symbol sorts.Character text = Fixed (character text)
+atom_of value_of_symbol sorts.TwoCharacters text = Fixed (two_characters text)
+atom_of value_of_symbol sorts.Packed text = Fixed (packed text)
+atom_of value_of_symbol sort text = Fixed missing
 
 abbrev pub plain_item : (Symbol → Quantity) → PlainToken → Item
-plain_item stands_for token = record { sort = token.sort; atom = atom_of stands_for token.sort token.text }
+plain_item value_of_symbol token = record { sort = token.sort; atom = atom_of value_of_symbol token.sort token.text }
 
 abbrev pub item : (Symbol → Quantity) → Lexeme → Item
-item stands_for token = plain_item stands_for (plain token)
+item value_of_symbol token = plain_item value_of_symbol (plain token)

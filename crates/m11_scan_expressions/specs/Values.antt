@@ -48,11 +48,11 @@ value_of radix items = value_within (length items) radix items
 
 -- a token of a line as part of an expression, with these values of symbols
 abbrev pub seen : (Symbol → Quantity) → Bytes → Token → Item
-seen stands_for line token = item stands_for (lexeme line token)
+seen value_of_symbol line token = item value_of_symbol (lexeme line token)
 
 -- tokens of a line as parts of an expression, with these values of symbols
 abbrev pub items_of : (Symbol → Quantity) → Bytes → List Token → List Item
-items_of stands_for line tokens = map (seen stands_for line) tokens
+items_of value_of_symbol line tokens = map (seen value_of_symbol line) tokens
 
 -- the value of tokens that are one term
 abbrev pub value_as_term : Radix → List Item → Quantity

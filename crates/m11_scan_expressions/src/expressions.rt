@@ -19,7 +19,7 @@ use m11_scan::{Line, Radix, Token};
 // The value of the expression that these tokens of a line make up.
 pub(crate) fn expression_value<N: Names>(tokens: &[Token], line: &Line, names: &N) -> Value
     ensures { quantity result
-        ≡ value_of (N.base names.now) (items_of (N.stands_for names.now) line.now.text tokens.now) }
+        ≡ value_of (N.base names.now) (items_of (N.value_of_symbol names.now) line.now.text tokens.now) }
 {
     expression(tokens, names.radix(), false, line, names).value
 }
@@ -28,7 +28,7 @@ pub(crate) fn expression_value<N: Names>(tokens: &[Token], line: &Line, names: &
 pub(crate) fn term_value<N: Names>(token: &Token, line: &Line, names: &N) -> Value
     requires { role_of token.now.sort ≡ Term }
     ensures { quantity result
-        ≡ value_of (N.base names.now) (items_of (N.stands_for names.now) line.now.text (token.now ∷ [])) }
+        ≡ value_of (N.base names.now) (items_of (N.value_of_symbol names.now) line.now.text (token.now ∷ [])) }
 {
     atom(token, names.radix(), line, names)
 }
@@ -52,7 +52,7 @@ fn expression<N: Names>(
 ) -> Part
     ensures length { result.length ≡ part_length in_bracket 0 (map sort_of tokens.now) }
     ensures value { quantity result.value
-        ≡ value_of radix (items_of (N.stands_for names.now) line.now.text (take result.length tokens.now)) }
+        ≡ value_of radix (items_of (N.value_of_symbol names.now) line.now.text (take result.length tokens.now)) }
     ensures within { result.length ≤ length tokens.now }
 {
     let first = first_term(tokens, radix, in_bracket, line, names);
@@ -79,7 +79,7 @@ fn first_term<N: Names>(
 ) -> Part
     ensures length { result.length ≡ term_length in_bracket begin (map sort_of tokens.now) }
     ensures value { quantity result.value
-        ≡ value_as_term radix (items_of (N.stands_for names.now) line.now.text (take result.length tokens.now)) }
+        ≡ value_as_term radix (items_of (N.value_of_symbol names.now) line.now.text (take result.length tokens.now)) }
     ensures within { result.length ≤ length tokens.now }
 {
     if let [first, rest @ ..] = tokens {
@@ -110,7 +110,7 @@ fn first_term<N: Names>(
 fn term<N: Names>(tokens: &[Token], radix: Radix, in_bracket: bool, line: &Line, names: &N) -> Part
     ensures length { result.length ≡ term_length in_bracket begin (map sort_of tokens.now) }
     ensures value { quantity result.value
-        ≡ value_as_term radix (items_of (N.stands_for names.now) line.now.text (take result.length tokens.now)) }
+        ≡ value_as_term radix (items_of (N.value_of_symbol names.now) line.now.text (take result.length tokens.now)) }
     ensures within { result.length ≤ length tokens.now }
 {
     if let [first, rest @ ..] = tokens {
@@ -134,7 +134,7 @@ fn any_term<N: Names>(
 ) -> Part
     ensures length { result.length ≡ term_length in_bracket begin (map sort_of tokens.now) }
     ensures value { quantity result.value
-        ≡ value_as_term radix (items_of (N.stands_for names.now) line.now.text (take result.length tokens.now)) }
+        ≡ value_as_term radix (items_of (N.value_of_symbol names.now) line.now.text (take result.length tokens.now)) }
     ensures within { result.length ≤ length tokens.now }
 {
     match tokens {

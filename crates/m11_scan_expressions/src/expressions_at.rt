@@ -41,9 +41,9 @@ pub fn number_at<N: Names>(
     remarks: &mut Remarks,
 ) -> Result<ExpressionNumber, AllocError>
     ensures value { IfOk result (λ number. number.value
-        ≡ spec.number_at (known_by (N.base names.now) (N.stands_for names.now)) line.now.text column) }
+        ≡ spec.number_at (known_by (N.base names.now) (N.value_of_symbol names.now)) line.now.text column) }
     ensures flags { IfOk result (λ number. bits_of number.flags
-        ≡ spec.number_flags (known_by (N.base names.now) (N.stands_for names.now)) line.now.text column) }
+        ≡ spec.number_flags (known_by (N.base names.now) (N.value_of_symbol names.now)) line.now.text column) }
     ensures end { IfOk result (λ number. number.end ≡ expression_end line.now.text column) }
     ensures remarks { IfOk result (λ _. remarks.new ≡ with_symbols remarks.old (spec.symbols_at line.now.text column)) }
 {
@@ -64,9 +64,9 @@ pub fn number_from<N: Names>(
 ) -> Result<ExpressionNumber, AllocError>
     requires { IsNext line.now.text column token }
     ensures value { IfOk result (λ number. number.value
-        ≡ spec.number_at (known_by (N.base names.now) (N.stands_for names.now)) line.now.text column) }
+        ≡ spec.number_at (known_by (N.base names.now) (N.value_of_symbol names.now)) line.now.text column) }
     ensures flags { IfOk result (λ number. bits_of number.flags
-        ≡ spec.number_flags (known_by (N.base names.now) (N.stands_for names.now)) line.now.text column) }
+        ≡ spec.number_flags (known_by (N.base names.now) (N.value_of_symbol names.now)) line.now.text column) }
     ensures end { IfOk result (λ number. number.end ≡ expression_end line.now.text column) }
     ensures remarks { IfOk result (λ _. remarks.new ≡ with_symbols remarks.old (spec.symbols_at line.now.text column)) }
 {
@@ -93,9 +93,9 @@ fn number_by<N: Names>(
     requires alone { IfSome single (λ single. IsAlone line.now.text column single.term) }
     requires end { IfSome single (λ single. single.term.end ≡ expression_end line.now.text column) }
     ensures value { IfOk result (λ number. number.value
-        ≡ spec.number_at (known_by (N.base names.now) (N.stands_for names.now)) line.now.text column) }
+        ≡ spec.number_at (known_by (N.base names.now) (N.value_of_symbol names.now)) line.now.text column) }
     ensures flags { IfOk result (λ number. bits_of number.flags
-        ≡ spec.number_flags (known_by (N.base names.now) (N.stands_for names.now)) line.now.text column) }
+        ≡ spec.number_flags (known_by (N.base names.now) (N.value_of_symbol names.now)) line.now.text column) }
     ensures end { IfOk result (λ number. number.end ≡ expression_end line.now.text column) }
     ensures remarks { IfOk result (λ _. remarks.new ≡ with_symbols remarks.old (spec.symbols_at line.now.text column)) }
 {
@@ -133,7 +133,7 @@ fn read_expression<N: Names>(
     requires alone { IfSome single (λ single. IsAlone line.now.text column single.term) }
     requires end { IfSome single (λ single. single.term.end ≡ expression_end line.now.text column) }
     ensures value { IfOk result (λ read. quantity read.value
-        ≡ spec.value_at (known_by (N.base names.now) (N.stands_for names.now)) line.now.text column) }
+        ≡ spec.value_at (known_by (N.base names.now) (N.value_of_symbol names.now)) line.now.text column) }
     ensures end { IfOk result (λ read. read.end ≡ expression_end line.now.text column) }
     ensures remarks { IfOk result (λ _. remarks.new ≡ with_symbols remarks.old (spec.symbols_at line.now.text column)) }
 {
@@ -160,7 +160,7 @@ pub(crate) fn read_tokens<N: Names>(
     remarks: &mut Remarks,
 ) -> Result<Reading, AllocError>
     ensures value { IfOk result (λ read. quantity read.value
-        ≡ spec.value_at (known_by (N.base names.now) (N.stands_for names.now)) line.now.text column) }
+        ≡ spec.value_at (known_by (N.base names.now) (N.value_of_symbol names.now)) line.now.text column) }
     ensures end { IfOk result (λ read. read.end ≡ expression_end line.now.text column) }
     ensures remarks { IfOk result (λ _. remarks.new ≡ with_symbols remarks.old (spec.symbols_at line.now.text column)) }
 {
@@ -178,7 +178,7 @@ pub(crate) fn read_tokens<N: Names>(
 #[inline(never)]
 pub(crate) fn long_value<N: Names>(line: &Line, column: u8, names: &N) -> Value
     ensures { quantity result
-        ≡ spec.value_at (known_by (N.base names.now) (N.stands_for names.now)) line.now.text column }
+        ≡ spec.value_at (known_by (N.base names.now) (N.value_of_symbol names.now)) line.now.text column }
 {
     expression_value(expression_at(line, column).tokens.as_slice(), line, names)
 }

@@ -124,7 +124,7 @@ impl Expr {
     #[inline(always)]
     pub fn value<N: Names>(self, line: &Line, names: &N) -> Value
         ensures { quantity result
-            ≡ spec.value (known_by (N.base names.now) (N.stands_for names.now)) (expression_of line.now.text self) }
+            ≡ spec.value (known_by (N.base names.now) (N.value_of_symbol names.now)) (expression_of line.now.text self) }
     {
         match self {
             Expr::Empty => Value::missing(),
@@ -166,7 +166,7 @@ impl Expr {
         remarks: &mut Remarks,
     ) -> Result<Value, AllocError>
         ensures value { IfOk result (λ value. quantity value
-            ≡ spec.value (known_by (N.base names.now) (N.stands_for names.now)) (expression_of line.now.text self)) }
+            ≡ spec.value (known_by (N.base names.now) (N.value_of_symbol names.now)) (expression_of line.now.text self)) }
         ensures remarks { IfOk result
             (λ _. remarks.new ≡ with_symbols remarks.old (spec.symbols (expression_of line.now.text self))) }
     {
@@ -187,7 +187,7 @@ impl Expr {
 #[inline(always)]
 fn single_value<N: Names>(line: &Line, token: Token, names: &N) -> Value
     ensures { quantity result
-        ≡ spec.value (known_by (N.base names.now) (N.stands_for names.now)) (expression_of line.now.text (Expr.Term token)) }
+        ≡ spec.value (known_by (N.base names.now) (N.value_of_symbol names.now)) (expression_of line.now.text (Expr.Term token)) }
 {
     if is_term(token.sort) {
         term_value(&token, line, names)

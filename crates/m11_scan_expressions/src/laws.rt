@@ -71,8 +71,8 @@ pub fn prefixes_apply_to_the_term_after_them()
         → value_of radix (mark ∷ term) ≡ value_of Octal term }
     ensures decimal { (radix : Radix) (mark : Item) (term : List Item) → mark.sort ≡ DecimalRadix → IsTerm term
         → value_of radix (mark ∷ term) ≡ value_of Decimal term }
-    ensures in_brackets { (radix : Radix) (stands_for : Symbol → Quantity)
-        → value_of radix (map (item stands_for) (tokens_of (codes "^D<10+10>"))) ≡ absolute 0o24 0 }
+    ensures in_brackets { (radix : Radix) (value_of_symbol : Symbol → Quantity)
+        → value_of radix (map (item value_of_symbol) (tokens_of (codes "^D<10+10>"))) ≡ absolute 0o24 0 }
 {}
 
 /// The value of an expression in a radix depends on no symbols but those in it.
@@ -86,6 +86,6 @@ pub fn symbols_that_are_read_decide()
 /// Expressions whose tokens differ only in the case of letters, outside `'c` and `"cc`, have the same value.
 #[tactic(auto, using(crate::proofs::Cases::same_values))]
 pub fn case_makes_no_difference()
-    ensures { (radix : Radix) (stands_for : Symbol → Quantity) (first second : List Lexeme) → AreSame first second
-        → value_of radix (map (item stands_for) first) ≡ value_of radix (map (item stands_for) second) }
+    ensures { (radix : Radix) (value_of_symbol : Symbol → Quantity) (first second : List Lexeme) → AreSame first second
+        → value_of radix (map (item value_of_symbol) first) ≡ value_of radix (map (item value_of_symbol) second) }
 {}

@@ -28,7 +28,7 @@ pub trait Names {
     ghost base: { Self → Radix };
 
     // The value of each symbol.
-    ghost stands_for: { Self → Symbol → Quantity };
+    ghost value_of_symbol: { Self → Symbol → Quantity };
 
     /// The radix of numbers without a radix of their own.
     fn radix(&self) -> Radix
@@ -36,5 +36,5 @@ pub trait Names {
 
     /// The value of a symbol.
     fn meaning(&self, symbol: Symbol) -> Value
-        ensures { quantity result ≡ stands_for self.now symbol };
+        ensures { quantity result ≡ value_of_symbol self.now symbol };
 }

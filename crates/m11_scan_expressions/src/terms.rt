@@ -15,7 +15,7 @@ use m11_scan::{ErrorFlags, Line, Number, Radix, Sort, Token, read_name, read_num
 // The value of a token as a term. A token that isn't a term counts as a missing one, and a local symbol outside 1 to 65535 is 0, flagged A.
 pub(crate) fn atom<N: Names>(token: &Token, radix: Radix, line: &Line, names: &N) -> Value
     ensures { quantity result
-        ≡ atom_value radix (item (N.stands_for names.now) (lexeme line.now.text token.now)).atom }
+        ≡ atom_value radix (item (N.value_of_symbol names.now) (lexeme line.now.text token.now)).atom }
 {
     let text = token.text(line);
     match token.sort {
@@ -43,7 +43,7 @@ fn of_number(number: Number) -> Value
 // speed: inline, since this is called for each symbol of an expression, and a call would pass its result through memory.
 #[inline(always)]
 fn meaning_or<N: Names>(names: &N, symbol: Option<Symbol>, other: Value) -> Value
-    ensures { quantity result ≡ unwrap_or (option_map (N.stands_for names.now) symbol) (quantity other) }
+    ensures { quantity result ≡ unwrap_or (option_map (N.value_of_symbol names.now) symbol) (quantity other) }
 {
     match symbol {
         Some(symbol) => names.meaning(symbol),

@@ -28,7 +28,7 @@ pub fn sources_after_a_line_feed_are_one_text()
 /// Lines without NULs, line feeds, form feeds or CRs are read as they are, up to 132 characters of each, in order, from one source
 /// or from several, within the limits. A line feed follows each of them, but the last line of a source may be without one if it
 /// isn't empty.
-pub fn plain_lines_are_read_as_they_stand()
+pub fn plain_lines_are_read_unchanged()
     ensures { (sources lines : List Bytes) → HaveLines sources lines → sum_by length sources ≤ most_bytes
         → length lines ≤ most_lines → reading_of sources ≡ record { lines = map line_of lines; fault = None } }
 {}

@@ -7,6 +7,6 @@ mod laws;
 
 pub use laws::{
     calls_read_lines_in_order, feeds_give_as_far_as_they_are_read,
-    lines_read_are_those_of_the_sources, plain_lines_are_read_as_they_stand,
+    lines_read_are_those_of_the_sources, plain_lines_are_read_unchanged,
     sources_after_a_line_feed_are_one_text,
 };

@@ -49,22 +49,22 @@ label_stands size column name colon labels true a b c d rest =
     labelled_stand size column name colon labels (kind_of name.sort colon.sort name.text) a b c d rest
 label_stands size column name colon labels false a b c d rest = omega arith
 
-labels_stand : (size column : ℕ) (tokens : List Lexeme) → AreOrdered size column tokens → LabelsLie size column (labels_in tokens)
-labels_stand size column [] o = o
-labels_stand size column (name ∷ []) o = within size column (name ∷ []) o
-labels_stand size column (name ∷ (colon ∷ tokens)) o =
+labels_lie : (size column : ℕ) (tokens : List Lexeme) → AreOrdered size column tokens → LabelsLie size column (labels_in tokens)
+labels_lie size column [] o = o
+labels_lie size column (name ∷ []) o = within size column (name ∷ []) o
+labels_lie size column (name ∷ (colon ∷ tokens)) o =
     let later = within size colon.end tokens o.2.2 in
     let next = o.2.0 in
     let longer = o.2.1 in
     label_stands size column name colon (labels_in tokens) (eqb name.end colon.start) o.0 o.1 (omega arith) later
-    (labels_stand size colon.end tokens o.2.2)
+    (labels_lie size colon.end tokens o.2.2)
 
 end_within : (size column : ℕ) (labels : List Label) → LabelsLie size column labels → end_of column labels ≤ size
 end_within size column [] o = o
 end_within size column (label ∷ labels) o = end_within size label.end labels o.3
 
 pub labels_at-stand : (line : List ℕ) → LabelsLie (length line) 0 (labels_at line)
-labels_at-stand line = labels_stand (length line) 0 (tokens_of line) (tokens_of-ordered line)
+labels_at-stand line = labels_lie (length line) 0 (tokens_of line) (tokens_of-ordered line)
 
 module _ (size column : ℕ) (first : Lexeme) (early : column ≤ first.start) (longer : first.start < first.end)
     (inside : first.end ≤ size) where

@@ -39,15 +39,15 @@ bracketed_actual line start =
     }
 
 -- the next actual at or after a column; blanks and tabs before it are skipped. Its first character decides its kind: `<` begins a
--- bracketed one, `\` comes before an expression if `gives_digits`, and any other character begins one that extends to a comma, a
+-- bracketed one, `\` comes before an expression if `allows_digits`, and any other character begins one that extends to a comma, a
 -- blank, a tab, a `;` or the end of the line. There is no actual at the end of the line or at a `;`; at a comma the actual is empty
 abbrev pub next_actual : Bytes → ℕ → Bool → Option Actual
-next_actual line column gives_digits =
+next_actual line column allows_digits =
     let start = column + prefix_len is_blank (drop column line) in elim (drop start line) [
       | [] ↦ None
       | byte ∷ text ↦
           if byte == 0o73 then None
           else (if byte == 0o74 then Some (bracketed_actual line (start + 1))
-          else (if byte == 0o134 && gives_digits then Some (whole_actual Digits (start + 1) (expression_end line (start + 1)))
+          else (if byte == 0o134 && allows_digits then Some (whole_actual Digits (start + 1) (expression_end line (start + 1)))
           else Some (whole_actual Bare start (start + prefix_len is_bare (drop start line)))))
     ]

@@ -65,15 +65,15 @@ fn begins_with_comma(text: &[u8]) -> bool
 }
 
 /// The next actual at or after a column of a line; blanks and tabs before it are skipped. There is none at the end of the line or at
-/// a `;`; at a comma the actual is empty. `\` is an ordinary character unless `gives_digits` is true.
-pub fn next_actual(line: &Line, column: u8, gives_digits: bool) -> Option<Actual>
-    ensures { result ≡ spec.next_actual line.now.text column gives_digits }
+/// a `;`; at a comma the actual is empty. `\` is an ordinary character unless `allows_digits` is true.
+pub fn next_actual(line: &Line, column: u8, allows_digits: bool) -> Option<Actual>
+    ensures { result ≡ spec.next_actual line.now.text column allows_digits }
 {
     let start = column + run_length(text_from(line, column), Class::Blank) as u8;
     match text_from(line, start) {
         [] | [b';', ..] => None,
         [b'<', ..] => Some(bracketed_actual(line, start + 1)),
-        [b'\\', ..] if gives_digits => Some(digits_actual(line, start + 1)),
+        [b'\\', ..] if allows_digits => Some(digits_actual(line, start + 1)),
         _ => Some(bare_actual(line, start)),
     }
 }

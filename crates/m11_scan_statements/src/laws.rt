@@ -9,7 +9,7 @@ ghost use Rattle.m11_scan_statements.specs.Statements.{body_of, label_flags};
 
 /// The labels and the body of a line are in order and don't overlap.
 #[tactic(auto, using(crate::proofs::InOrder::orders))]
-pub fn labels_and_body_stand_in_order()
+pub fn labels_and_body_are_in_order()
     ensures labels { (line : Bytes) → LabelsLie (length line) 0 (labels_at line) }
     ensures body { (line : Bytes) → BodyLies (labels_end line) (length line) (body_of line) }
 {}

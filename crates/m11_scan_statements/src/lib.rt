@@ -33,4 +33,4 @@ pub use formals::{Formal, NextFormal, next_formal};
 // Laws of the order of labels and bodies, and of upper and lower case.
 mod laws;
 
-pub use laws::{case_makes_no_difference, labels_and_body_stand_in_order};
+pub use laws::{case_makes_no_difference, labels_and_body_are_in_order};

@@ -8,7 +8,7 @@ use Rattle.std.proofs.lemmas.List.{get_or-set_other, get_or-set_same, get_or_pas
 use Rattle.std.proofs.lemmas.List.Concat.{flat_map-append}
 use Rattle.std.proofs.lemmas.List.Elements.{filter-append}
 use Rattle.m11_base.specs.Devices.{Rises}
-use Rattle.m11_base.specs.Sink.{AppendsBeginning}
+use Rattle.m11_base.specs.Sink.{AppendsPrefix}
 use Rattle.m11_base.proofs.Known.{Appends-Appends}
 use Rattle.m11_cpu.specs.Messages.{PutsMessages}
 use Rattle.m11_cpu.specs.declared.fault.SimFault.{SimFault}
@@ -16,7 +16,7 @@ use Rattle.m11_cpu.specs.declared.fault.SimFault.TheVariants.{Load, Write, NoMem
 use Rattle.m11_cpu_machine.specs.Memory.{bytes_of, most_words, word_at}
 use Rattle.m11_cpu_machine.specs.declared.machine.Machine.{Machine}
 use Rattle.m11_cpu_machine.proofs.WordsAsBytes.{whole_word}
-use Rattle.m11_trace.specs.Changes.{AreAlike, HaveSameWords, KeepsUp, changed_among, changes_among, even_addresses, has_changed, memory_changes, word_text}
+use Rattle.m11_trace.specs.Changes.{AreAlike, HaveSameWords, CopyMatches, changed_among, changes_among, even_addresses, has_changed, memory_changes, word_text}
 use Rattle.m11_trace.specs.Lines.{line_with, step_line}
 use Rattle.m11_trace.specs.Shots.{shot_of}
 use Rattle.m11_trace.specs.Taken.{line_from}
@@ -184,7 +184,7 @@ module _ (copy words memory : List ℕ) (index : ℕ) (a b : Option (List ℕ)) 
         let all = begins_all (index + 1) (bytes_of copy) memory (omega (arith, inside)) in
         let whole = ap (λ (t : List ℕ). t ++ all.0) with_change ∙ sym all.1 in
         let begins = begins_whole a c (done ++ text) all.0 (begins_after a b c done text w.put put.0) in
-        (subst (λ (t : List ℕ). AppendsBeginning a c t) whole begins, subst (λ (n : ℕ). Rises n h) w.sound put.1)
+        (subst (λ (t : List ℕ). AppendsPrefix a c t) whole begins, subst (λ (n : ℕ). Rises n h) w.sound put.1)
     change_failed c h NoMemory put = absurd put
     change_failed c h (Load fault) put = absurd put
 
@@ -226,9 +226,9 @@ line_as symbols first number shot words m m'' is same =
     by (nat_le first number) (λ e. same (leb-true first number e))
 
 -- a copy that keeps up with a memory keeps up with any equal one
-pub keeps_up : (first count : ℕ) (words memory same : List ℕ) → memory ≡ same → KeepsUp first count words memory
-    → KeepsUp first count words same
-keeps_up first count words memory same is keeps = subst (λ (bytes : List ℕ). KeepsUp first count words bytes) is keeps
+pub keeps_up : (first count : ℕ) (words memory same : List ℕ) → memory ≡ same → CopyMatches first count words memory
+    → CopyMatches first count words same
+keeps_up first count words memory same is keeps = subst (λ (bytes : List ℕ). CopyMatches first count words bytes) is keeps
 
 -- if the copy has the words of the memory before the step, the line with its changes is the line of the step
 pub line_is : (symbols : List Symbol) (first number : ℕ) (shot : Shot) (words earlier later : List ℕ) (m m'' : Machine) → earlier ≡ m.memory

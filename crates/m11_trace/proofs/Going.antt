@@ -4,7 +4,7 @@ use Rattle.std.proofs.lemmas.Bool.{eq-eqb, ne_eqb}
 use Rattle.std.specs.List.{AllByRecursion}
 use Rattle.std.specs.Io.KnownBytes.{Appends}
 use Rattle.m11_base.specs.Devices.{Rises}
-use Rattle.m11_base.specs.Sink.{AppendsBeginning}
+use Rattle.m11_base.specs.Sink.{AppendsPrefix}
 use Rattle.m11_base.proofs.Known.{Appends-Appends}
 use Rattle.m11_cpu.specs.Messages.{PutsMessages}
 use Rattle.m11_cpu.specs.Runs.{run_counted}
@@ -38,15 +38,15 @@ appends_nothing None = tt
 appends_nothing (Some text) = sym (append-nil text)
 
 -- if a text and then a prefix of a second one were written, a prefix of both together was
-pub begins_after : (a b c : Option (List ℕ)) (first second : List ℕ) → Appends a b first → AppendsBeginning b c second
-    → AppendsBeginning a c (first ++ second)
+pub begins_after : (a b c : Option (List ℕ)) (first second : List ℕ) → Appends a b first → AppendsPrefix b c second
+    → AppendsPrefix a c (first ++ second)
 begins_after a b c first second h k =
     let whole = ap (λ (t : List ℕ). first ++ t) k.2 ∙ sym (append_assoc first k.0 k.1) in
     (first ++ k.0, k.1, whole, Appends-Appends a b c first k.0 h k.3)
 
 -- a prefix of the first part is a prefix of the whole
-pub begins_whole : (a b : Option (List ℕ)) (first second : List ℕ) → AppendsBeginning a b first
-    → AppendsBeginning a b (first ++ second)
+pub begins_whole : (a b : Option (List ℕ)) (first second : List ℕ) → AppendsPrefix a b first
+    → AppendsPrefix a b (first ++ second)
 begins_whole a b first second k =
     (k.0, k.1 ++ second, ap (λ (t : List ℕ). t ++ second) k.2 ∙ append_assoc k.0 k.1 second, k.3)
 
@@ -233,11 +233,11 @@ module _ (symbols : List Symbol) (first : ℕ) (taken : List TracedStep) (recent
 
   pub part_shown : (m m'' : Machine) (turn : Turn) (count : ℕ) (line : List ℕ) (output' : Output)
       → count ≡ length taken → line ≡ line_from first (count + 1) (step_line symbols (count + 1) m m'')
-      → AppendsBeginning middle.text output'.text line → Rises middle.faults output'.faults
-      → AppendsBeginning output.text output'.text (lines_from symbols first (made m turn m'' ∷ taken))
+      → AppendsPrefix middle.text output'.text line → Rises middle.faults output'.faults
+      → AppendsPrefix output.text output'.text (lines_from symbols first (made m turn m'' ∷ taken))
       × Rises output.faults output'.faults
   part_shown m m'' turn count line output' long line_is text faults =
-      let P : List ℕ → Type 0 = λ t. AppendsBeginning output.text output'.text t in
+      let P : List ℕ → Type 0 = λ t. AppendsPrefix output.text output'.text t in
       let Q : ℕ → Type 0 = λ n. Rises n output'.faults in (
         subst P (line_of m m'' turn count line long line_is)
             (begins_after output.text middle.text output'.text (lines_from symbols first taken) _ s.text text),

@@ -3,7 +3,7 @@ use Rattle.std.proofs.Common.{◌≡◌, ◌∙◌, ℕ, suc, ◌+◌, ◌-◌, 
 use Rattle.std.proofs.lemmas.List.{take_all}
 use Rattle.std.specs.Io.KnownBytes.{Appends}
 use Rattle.m11_base.specs.Devices.{Rises}
-use Rattle.m11_base.specs.Sink.{AppendsBeginning}
+use Rattle.m11_base.specs.Sink.{AppendsPrefix}
 use Rattle.m11_base.proofs.Known.{Appends-Appends}
 use Rattle.m11_cpu.specs.Messages.{PutsMessages}
 use Rattle.m11_cpu.specs.declared.fault.SimFault.{SimFault}
@@ -73,7 +73,7 @@ module _ (memory : List ℕ) (first index count : ℕ) (a b : Option (List ℕ))
       let rest : List ℕ = words_from memory first (index + 1) (count - (index + 1)) in
       let whole = ap (λ (t : List ℕ). p.shown ++ t) (sym (left_is lt (Some word) is)) ∙ p.all in
       let begins = begins_after a b c p.shown (cell ++ rest) p.put (begins_whole b c cell rest put.0) in
-      (subst (λ (t : List ℕ). AppendsBeginning a c t) whole begins, subst (λ (n : ℕ). Rises n h) p.sound put.1)
+      (subst (λ (t : List ℕ). AppendsPrefix a c t) whole begins, subst (λ (n : ℕ). Rises n h) p.sound put.1)
   word_failed c h word NoMemory lt is put = absurd put
   word_failed c h word (Load fault) lt is put = absurd put
 

@@ -3,7 +3,7 @@ use Rattle.std.proofs.Common.{◌≡◌, ◌∙◌, ℕ, ◌%◌, ◌==◌, Bool
 use Rattle.std.specs.Prelude.{unwrap_or}
 use Rattle.std.specs.Io.KnownBytes.{Appends}
 use Rattle.m11_base.specs.Devices.{Rises}
-use Rattle.m11_base.specs.Sink.{AppendsBeginning}
+use Rattle.m11_base.specs.Sink.{AppendsPrefix}
 use Rattle.m11_base.specs.declared.operand.Register.TheVariants.{Pc}
 use Rattle.m11_base.proofs.Known.{Appends-Appends}
 use Rattle.m11_cpu.specs.Loading.{LoadsInto}
@@ -165,7 +165,7 @@ module _ (request : Request) (symbols : List Symbol) (first : ℕ) (stops : Stop
     pub end_failed : (fault : SimFault) → PutsMessages {A = Unit {0}} middle.text after.messages.text middle.faults
         after.messages.faults (end_text symbols first steps ranges m) (Err fault) → Traces request symbols first stops ranges before after (Err fault)
     end_failed Write p =
-        let P : List ℕ → Type 0 = λ t. AppendsBeginning middle.text after.messages.text t in
+        let P : List ℕ → Type 0 = λ t. AppendsPrefix middle.text after.messages.text t in
         let Q : ℕ → Type 0 = λ n. Rises n after.messages.faults in (
           request.limit,
           omega arith,

@@ -50,5 +50,5 @@ AreAlike words memory from to =
     (index : ℕ) → from ≤ index → index < to → slice_index words index ≡ word_at memory (2 * index)
 
 -- the words of a copy equal those of the memory after `count` steps, if the last of these steps has a trace line
-abbrev pub KeepsUp : ℕ → ℕ → List ℕ → Bytes → Type 0
-KeepsUp first count words memory = 1 ≤ count → first ≤ count → HaveSameWords (bytes_of words) memory
+abbrev pub CopyMatches : ℕ → ℕ → List ℕ → Bytes → Type 0
+CopyMatches first count words memory = 1 ≤ count → first ≤ count → HaveSameWords (bytes_of words) memory

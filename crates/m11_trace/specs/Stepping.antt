@@ -2,7 +2,7 @@
 use Rattle.std.specs.Prelude.{◌≡◌, ℕ, ◌≤◌, nat_lt, if◌then◌else◌, List, [], ◌++◌, length, map, take, Result, Ok, Err}
 use Rattle.std.specs.Io.KnownBytes.{Appends}
 use Rattle.m11_base.specs.Devices.{Bytes, Rises}
-use Rattle.m11_base.specs.Sink.{AppendsBeginning}
+use Rattle.m11_base.specs.Sink.{AppendsPrefix}
 use Rattle.m11_cpu.specs.declared.fault.SimFault.{SimFault}
 use Rattle.m11_cpu.specs.declared.fault.SimFault.TheVariants.{Load, Write, NoMemory}
 use Rattle.m11_cpu.specs.declared.runs.Ran.{Ran}
@@ -28,7 +28,7 @@ StepsWithLines run limit symbols first stops m m' old new output output' (Ok ste
     × Appends output.text output'.text (lines_from symbols first taken) × (output'.faults ≡ output.faults)
 StepsWithLines run limit symbols first stops m m' old new output output' (Err Write) =
     (most : ℕ) × (most ≤ limit) × (ending : Ending) × (taken : List TracedStep) × Goes run most stops m old taken ending m' new
-    × AppendsBeginning output.text output'.text (lines_from symbols first taken) × Rises output.faults output'.faults
+    × AppendsPrefix output.text output'.text (lines_from symbols first taken) × Rises output.faults output'.faults
 StepsWithLines run limit symbols first stops m m' old new output output' (Err NoMemory) = ⊥
 StepsWithLines run limit symbols first stops m m' old new output output' (Err (Load fault)) = ⊥
 

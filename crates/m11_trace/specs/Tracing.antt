@@ -4,7 +4,7 @@ use Rattle.std.specs.Prelude.{◌≡◌, ℕ, suc, ◌<◌, ◌≤◌, true, Lis
 use Rattle.std.specs.List.{AllByRecursion}
 use Rattle.std.specs.Io.KnownBytes.{Appends}
 use Rattle.m11_base.specs.Devices.{Bytes, Rises}
-use Rattle.m11_base.specs.Sink.{AppendsBeginning}
+use Rattle.m11_base.specs.Sink.{AppendsPrefix}
 use Rattle.m11_cpu.specs.Simulation.{HasRun, Loaded, Request, RunDevices}
 use Rattle.m11_cpu.specs.declared.fault.SimFault.{SimFault}
 use Rattle.m11_cpu.specs.declared.fault.SimFault.TheVariants.{Load, Write, NoMemory}
@@ -90,7 +90,7 @@ Traces request symbols first stops ranges before after (Err (Load fault)) =
 Traces request symbols first stops ranges before after (Err Write) =
     (limit : ℕ) × (limit ≤ request.limit) × (ending : Ending) × (m : Machine) × (taken : List TracedStep)
     × HasTraced (record request { limit = limit }) stops before after taken ending m
-    × AppendsBeginning before.messages.text after.messages.text (report symbols first ranges taken ending m)
+    × AppendsPrefix before.messages.text after.messages.text (report symbols first ranges taken ending m)
     × Rises before.messages.faults after.messages.faults
 Traces request symbols first stops ranges before after (Err NoMemory) =
     (after.tape ≡ before.tape) × (after.console ≡ before.console) × (after.messages ≡ before.messages)

@@ -6,7 +6,7 @@ ghost use Rattle.m11_cpu.specs.Runs.{run_counted};
 ghost use Rattle.m11_cpu_machine.specs.Dialogue.{Does, both, output_of};
 ghost use Rattle.m11_cpu_machine.specs.Memory.{bytes_of, most_words};
 ghost use Rattle.m11_cpu_machine.specs.Steps.{step};
-ghost use Rattle.m11_trace.specs.Changes.{HaveSameWords, KeepsUp, memory_changes};
+ghost use Rattle.m11_trace.specs.Changes.{HaveSameWords, CopyMatches, memory_changes};
 ghost use Rattle.m11_trace.specs.Lines.{line_end, line_with};
 ghost use Rattle.m11_trace.specs.Shots.{shot_of};
 ghost use Rattle.m11_trace.specs.Stepping.{StepsWithLines};
@@ -35,7 +35,11 @@ pub(crate) struct Steps {
 }
 
 // Makes one step, and records what its trace line shows.
-fn take_step<I: Feed, O: Sink>(machine: &mut Machine, input: &mut I, output: &mut O) -> (Turn, Shot)
+fn record_step<I: Feed, O: Sink>(
+    machine: &mut Machine,
+    input: &mut I,
+    output: &mut O,
+) -> (Turn, Shot)
     ensures does { Does (step machine.old)
         (both (I.text input.old) (I.faults input.old) (O.text output.old) (O.faults output.old))
         (both (I.text input.new) (I.faults input.new) (O.text output.new) (O.faults output.new))
@@ -57,7 +61,7 @@ fn take_step<I: Feed, O: Sink>(machine: &mut Machine, input: &mut I, output: &mu
 fn ready(first: u32, count: u32, before: &mut [u16], memory: &Memory)
     requires { length before.old ≡ most_words }
     ensures size { length before.new ≡ most_words }
-    ensures same { first ≤ count + 1 → KeepsUp first count before.old memory.now → HaveSameWords (bytes_of before.new) memory.now }
+    ensures same { first ≤ count + 1 → CopyMatches first count before.old memory.now → HaveSameWords (bytes_of before.new) memory.now }
 {
     if count == first.saturating_sub(1) {
         copy_words(before, memory);
@@ -114,7 +118,7 @@ fn put_line_from<M: Sink>(
     ensures puts { PutsMessages (M.text messages.old) (M.text messages.new) (M.faults messages.old) (M.faults messages.new)
         (line_from first number (line_with symbols.now number shot.now (memory_changes (bytes_of before.old) memory.now))) result }
     ensures size { length before.new ≡ most_words }
-    ensures same { OnOk result (KeepsUp first number before.new memory.now) }
+    ensures same { OnOk result (CopyMatches first number before.new memory.now) }
 {
     if first > number {
         return Ok(());
@@ -162,7 +166,7 @@ pub(crate) fn steps_with_lines<I: Feed, O: Sink, M: Sink>(
         count_down(waiting, address);
         ready(first, count, before, machine.memory());
         let watched = watched_word(stops, machine.memory());
-        let (turn, shot) = take_step(machine, input, output);
+        let (turn, shot) = record_step(machine, input, output);
         count += 1;
         put_line_from(
             messages,

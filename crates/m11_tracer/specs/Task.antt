@@ -103,13 +103,13 @@ IsRefused rows fault =
     ⊎ ((breakpoints_of rows ≡ Err fault) ⊎ ((watched_of rows ≡ Err fault)
     ⊎ ((ranges_of rows ≡ Err fault) ⊎ (bottom_of (first_of (codes "bottom") rows) ≡ Err fault)))))
 
-abbrev pub EntriesGive : List Row → Result TraceTask UsageFault → Type 0
-EntriesGive rows (Ok task) = IsTraceTask rows task
-EntriesGive rows (Err fault) = IsRefused rows fault
+abbrev pub EntriesHaveResult : List Row → Result TraceTask UsageFault → Type 0
+EntriesHaveResult rows (Ok task) = IsTraceTask rows task
+EntriesHaveResult rows (Err fault) = IsRefused rows fault
 
 -- what a command line asks for, or why it is refused; memory may be refused for any command line
 abbrev pub Plans : List Text → Result TraceTask UsageFault → Type 0
-Plans words result = tasks.Plans application EntriesGive words result
+Plans words result = tasks.Plans application EntriesHaveResult words result
 
 -- ---- adding breakpoints and memory ranges
 

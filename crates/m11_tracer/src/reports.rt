@@ -3,7 +3,7 @@
 ghost use Rattle.std.specs.Prelude.{◌≡◌, OnErr, OnOk};
 ghost use Rattle.std.specs.Io.KnownBytes.{Appends};
 ghost use Rattle.m11_base.specs.Devices.{Rises};
-ghost use Rattle.m11_base.specs.Sink.{AppendsBeginning};
+ghost use Rattle.m11_base.specs.Sink.{AppendsPrefix};
 ghost use Rattle.m11_base_disassembly.specs.MapFault.{fault_line};
 ghost use Rattle.m11_base_writes.specs.States.{output_of};
 ghost use Rattle.m11_cli_reports.specs.Reports.{Reports};
@@ -24,8 +24,8 @@ pub(crate) fn report_no_names<S: Sink>(path: &str, fault: MapFault, sink: &mut S
 fn put_no_names<S: Sink>(path: &str, fault: MapFault, sink: &mut S) -> Result<(), PutFault>
     ensures whole { OnOk result (Appends (S.text sink.old) (S.text sink.new) (fault_line path.now fault)) }
     ensures sound { OnOk result (S.faults sink.new ≡ S.faults sink.old) }
-    ensures beginning { OnErr result
-        (AppendsBeginning (S.text sink.old) (S.text sink.new) (fault_line path.now fault)) }
+    ensures prefix { OnErr result
+        (AppendsPrefix (S.text sink.old) (S.text sink.new) (fault_line path.now fault)) }
     ensures fault { OnErr result (Rises (S.faults sink.old) (S.faults sink.new)) }
 {
     put_all(sink, fault.line_head().as_bytes())?;

@@ -6,12 +6,12 @@ ghost use Rattle.clap.specs.Words.{found_of, rows_of};
 ghost use Rattle.m11_cli_tasks.specs.Opened.{texts};
 ghost use Rattle.m11_cli_tasks.specs.Tasks.{IsDoable};
 ghost use Rattle.m11_cli_tasks.specs.declared.tasks.Task.TheVariants.{Sim};
-ghost use Rattle.m11_tracer.specs.Task.{AddsBreakpoints, AddsRanges, EntriesGive, Plans, after_colon, breakpoint_of, is_colon, range_of, watched_of};
+ghost use Rattle.m11_tracer.specs.Task.{AddsBreakpoints, AddsRanges, EntriesHaveResult, Plans, after_colon, breakpoint_of, is_colon, range_of, watched_of};
 
 use crate::application::application_command;
 use clap::ArgMatches;
 use m11_cli_tasks::{
-    SimTask, UsageFault, address, all_texts, bottom_given, count, number_given, sim_task,
+    SimTask, UsageFault, address, all_texts, bottom_option, count, number_option, sim_task,
 };
 use m11_trace::{Breakpoint, Range, Stops};
 use std::alloc::Global;
@@ -49,29 +49,29 @@ pub(crate) fn plan<'a, S: AsStr>(alloc: Global, words: &'a [S]) -> Result<TraceT
 {
     let command = application_command(alloc)?;
     let matches = command.try_get_matches_from(words)?;
-    let task = task_given(alloc, &matches);
+    let task = parsed_task(alloc, &matches);
     drop(matches);
     task
 }
 
 // The task that the parsed options ask for. Errors: the fault of an address or count, or `NoMemory`.
-fn task_given<'a>(alloc: Global, entries: &ArgMatches<'a>) -> Result<TraceTask<'a>, UsageFault>
-    ensures given { EntriesGive (rows_of (found_of entries.now)) result }
+fn parsed_task<'a>(alloc: Global, entries: &ArgMatches<'a>) -> Result<TraceTask<'a>, UsageFault>
+    ensures given { EntriesHaveResult (rows_of (found_of entries.now)) result }
     ensures doable { IfOk result (λ task. IsDoable (Sim task.sim)) }
 {
     let sim = sim_task(entries)?;
     let named = all_texts(alloc, entries, "place")?;
     let mut breakpoints = Vec::new(alloc);
     add_breakpoints(&mut breakpoints, named.as_slice())?;
-    let watched = watched_given(entries)?;
+    let watched = watch_option(entries)?;
     let parts = all_texts(alloc, entries, "range")?;
     let mut ranges = Vec::new(alloc);
     add_ranges(&mut ranges, parts.as_slice())?;
     let names = all_texts(alloc, entries, "symbols")?;
-    let bottom = bottom_given(entries)?;
+    let bottom = bottom_option(entries)?;
     Ok(TraceTask {
         sim,
-        from: number_given(entries, "from", 0, MOST_STEPS, 0),
+        from: number_option(entries, "from", 0, MOST_STEPS, 0),
         stops: Stops {
             breakpoints,
             watched,
@@ -83,8 +83,8 @@ fn task_given<'a>(alloc: Global, entries: &ArgMatches<'a>) -> Result<TraceTask<'
 }
 
 // The address of the word to watch, if there is one. Error: the fault of that address.
-#[tactic(auto, using(m11_cli_tasks::proofs::Entries::first_given))]
-fn watched_given(entries: &ArgMatches<'_>) -> Result<Option<u16>, UsageFault>
+#[tactic(auto, using(m11_cli_tasks::proofs::Entries::first_entry_value))]
+fn watch_option(entries: &ArgMatches<'_>) -> Result<Option<u16>, UsageFault>
     ensures { result ≡ watched_of (rows_of (found_of entries.now)) }
 {
     match entries.get_str("watch") {

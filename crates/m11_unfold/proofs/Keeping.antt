@@ -17,7 +17,7 @@ use Rattle.m11_unfold_rules.specs.Limits.{body_fault, bytes_of, closing_fault, m
 use Rattle.m11_unfold_bodies.specs.Left.{most_expansions}
 use Rattle.m11_unfold_rules.specs.Macros.{defined, macro_named}
 use Rattle.m11_unfold_rules.specs.Stages.{Macro, Opening, Purpose, Defines, Repeats, Drops, Stage}
-use Rattle.m11_unfold_rules.specs.Taking.{Move, NothingLeft, Passes, Gives, into_body, line_taken, move, nesting, one_taken, opened, skipped, skipped_by, switch_in, used}
+use Rattle.m11_unfold_rules.specs.Taking.{Move, NothingLeft, Passes, Gives, into_body, line_move, move, nesting, one_taken, opened, skipped, skipped_by, switch_in, used}
 use Rattle.m11_unfold_bodies.specs.Bodies.{depth_after}
 use Rattle.m11_unfold_bodies.specs.Conditions.{is_skipping}
 use Rattle.m11_unfold_rules.specs.Directives.{directive}
@@ -256,7 +256,7 @@ module _ (stage : Stage) (line : SourceLine) (left : List RemainingItem) (kept :
   kept_line : (opening : Option Opening) → stage.opening ≡ opening
       → taking_fault opening (record stage { left = Line line ∷ left }) line.text ≡ None
       → Keeps (record stage { left = Line line ∷ left })
-      (line_taken opening line (one_taken left (record stage { left = Line line ∷ left })))
+      (line_move opening line (one_taken left (record stage { left = Line line ∷ left })))
   kept_line None is fits = kept_live stage line left kept room (skipped stage.conditions line.text)
       (little_skipped stage.conditions line.text)
   kept_line (Some opening) is fits =

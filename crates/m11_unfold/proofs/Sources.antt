@@ -17,7 +17,7 @@ use Rattle.m11_unfold_rules.specs.Taking as taking
 use Rattle.m11_unfold_rules.specs.Unfolding.{UnfoldedLine, Leads, Unfolds, given}
 use Rattle.m11_unfold_rules.specs.Unfolding as steps
 use Rattle.m11_unfold_rules.specs.declared.fault.UnfoldFault.{UnfoldFault}
-use Rattle.m11_unfold.specs.Sources.{IsAllTaken, IsOver, Reaches, ReachesOn, Refuses, RefusesAt}
+use Rattle.m11_unfold.specs.Sources.{IsAllRead, IsOver, Reaches, ReachesOn, Refuses, RefusesAt}
 use Rattle.m11_unfold.specs.Steps.{Fails}
 use Rattle.m11_unfold.specs.Unfolder.{Acts, Comes, Steps, Stops, live_of}
 use Rattle.m11_unfold.specs.declared.steps.Act.{Act}
@@ -71,7 +71,7 @@ rests_without left stage none going =
 
 all_taken : (source : List SourceLine) (done : List UnfoldedLine) (before after : Stage) → Unfolds source done before
     → Leads before [] after
-    → after.left ≡ [] → after.has_ended ≡ false → IsAllTaken source done after
+    → after.left ≡ [] → after.has_ended ≡ false → IsAllRead source done after
 all_taken source done before after stands leads none going = record {
   unfolds = passes_on source done before after stands leads;
   none_left = none;

@@ -22,7 +22,7 @@ pub record Refuses (source : List SourceLine) (done : List UnfoldedLine) (fault 
   pub passes : FailsMoving (next_fault stage) (grows stage) fault
 
 -- all lines of the source have been read, and nothing is left to unfold
-pub record IsAllTaken (source : List SourceLine) (done : List UnfoldedLine) (after : Stage) : Type 0 where
+pub record IsAllRead (source : List SourceLine) (done : List UnfoldedLine) (after : Stage) : Type 0 where
   pub unfolds : Unfolds source done after
   pub none_left : after.left ≡ []
   pub rests : move after ≡ NothingLeft
@@ -37,7 +37,7 @@ pub record IsOver (source : List SourceLine) (done : List UnfoldedLine) (after :
 -- after a step: a further line is needed, or `.END` became live; or a line became live, and is the next one of the unfolding once its
 -- operator is executed within the limits; or the step failed
 abbrev pub Reaches : List SourceLine → List UnfoldedLine → Stage → SourceLine → Result Step UnfoldFault → Type 0
-Reaches source done after line (Ok NeedLine) = IsAllTaken source done after
+Reaches source done after line (Ok NeedLine) = IsAllRead source done after
 Reaches source done after line (Ok End) = IsOver source done after
 Reaches source done after line (Ok (Line is_expanded)) = (known : KnownSymbols) → act_fault after line.text ≡ None
     → Unfolds source (done ++ given known (live_of line is_expanded) after ∷ []) (act known after line.text).after

@@ -6,9 +6,9 @@
 ghost use Rattle.std.specs.Prelude.{◌≡◌, ◌+◌, ◌<◌, ◌≤◌, false, if◌then◌else◌, length, bit_or, IfErr, IfOk};
 ghost use Rattle.m11_unfold_rules.specs.Conditions.{condition as asked_condition};
 ghost use Rattle.m11_scan_expressions.specs.Expressions.{known_by};
-ghost use Rattle.m11_unfold_rules.specs.Indefinite.{rounds_seen};
+ghost use Rattle.m11_unfold_rules.specs.Indefinite.{rounds_model};
 ghost use Rattle.m11_scan_expressions.specs.LeftOvers.{left_over as line_left_over};
-ghost use Rattle.m11_unfold_rules.specs.Headers.{header, header_seen};
+ghost use Rattle.m11_unfold_rules.specs.Headers.{header, header_model};
 ghost use Rattle.m11_scan_expressions.specs.Remarks.{joined};
 ghost use Rattle.m11_unfold_bodies.specs.Conditions.{closed, most_conditions, switched};
 ghost use Rattle.m11_unfold_bodies.specs.Left.{conditions_open};
@@ -45,13 +45,13 @@ impl State {
         requires room { length self.old.conditions.entered + conditions_open self.old.left.left ≤ most_conditions }
         requires free { self.old.left.has_statement ≡ false }
         ensures own { IfOk result (λ is_own. is_own ≡ (spec.acted_by
-            (known_by (N.base names.now) (N.stands_for names.now)) line.now.text (stage_of self.old)
+            (known_by (N.base names.now) (N.value_of_symbol names.now)) line.now.text (stage_of self.old)
             (spec.OwnDirective directive column)).is_own) }
         ensures after { IfOk result (λ _. stage_of self.new ≡ (spec.acted_by
-            (known_by (N.base names.now) (N.stands_for names.now)) line.now.text (stage_of self.old)
+            (known_by (N.base names.now) (N.value_of_symbol names.now)) line.now.text (stage_of self.old)
             (spec.OwnDirective directive column)).after) }
         ensures remarks { IfOk result (λ _. remarks.new ≡ joined remarks.old (spec.acted_by
-            (known_by (N.base names.now) (N.stands_for names.now)) line.now.text (stage_of self.old)
+            (known_by (N.base names.now) (N.value_of_symbol names.now)) line.now.text (stage_of self.old)
             (spec.OwnDirective directive column)).remarks) }
         ensures unchanged { IfErr result (λ _. stage_of self.new ≡ stage_of self.old) }
     {
@@ -94,9 +94,9 @@ impl State {
     ) -> Result<(), AllocError>
         requires { length self.old.conditions.entered + conditions_open self.old.left.left ≤ most_conditions }
         ensures after { IfOk result (λ _. stage_of self.new ≡ (spec.acted_if
-            (known_by (N.base names.now) (N.stands_for names.now)) line.now.text column (stage_of self.old)).after) }
+            (known_by (N.base names.now) (N.value_of_symbol names.now)) line.now.text column (stage_of self.old)).after) }
         ensures remarks { IfOk result (λ _. remarks.new ≡ joined remarks.old (spec.acted_if
-            (known_by (N.base names.now) (N.stands_for names.now)) line.now.text column (stage_of self.old)).remarks) }
+            (known_by (N.base names.now) (N.value_of_symbol names.now)) line.now.text column (stage_of self.old)).remarks) }
         ensures unchanged { IfErr result (λ _. stage_of self.new ≡ stage_of self.old) }
     {
         if self.conditions.count() + self.left.conditions_open() < CONDITION_LIMIT {
@@ -119,9 +119,9 @@ impl State {
     ) -> Result<(), AllocError>
         requires { length self.old.conditions.entered < most_conditions }
         ensures after { IfOk result (λ _. stage_of self.new ≡ (spec.condition_opened line.now.text (asked_condition
-            (known_by (N.base names.now) (N.stands_for names.now)) line.now.text column) (stage_of self.old)).after) }
+            (known_by (N.base names.now) (N.value_of_symbol names.now)) line.now.text column) (stage_of self.old)).after) }
         ensures remarks { IfOk result (λ _. remarks.new ≡ joined remarks.old (spec.condition_opened line.now.text (asked_condition
-            (known_by (N.base names.now) (N.stands_for names.now)) line.now.text column) (stage_of self.old)).remarks) }
+            (known_by (N.base names.now) (N.value_of_symbol names.now)) line.now.text column) (stage_of self.old)).remarks) }
         ensures unchanged { IfErr result (λ _. stage_of self.new ≡ stage_of self.old) }
     {
         let verdict = condition(line, column, names, remarks)?;
@@ -170,9 +170,9 @@ impl State {
     ) -> Result<(), AllocError>
         requires { self.old.left.has_statement ≡ false }
         ensures after { IfOk result (λ _. stage_of self.new ≡ (spec.acted_immediate
-            (known_by (N.base names.now) (N.stands_for names.now)) line.now.text column (stage_of self.old)).after) }
+            (known_by (N.base names.now) (N.value_of_symbol names.now)) line.now.text column (stage_of self.old)).after) }
         ensures remarks { IfOk result (λ _. remarks.new ≡ joined remarks.old (spec.acted_immediate
-            (known_by (N.base names.now) (N.stands_for names.now)) line.now.text column (stage_of self.old)).remarks) }
+            (known_by (N.base names.now) (N.value_of_symbol names.now)) line.now.text column (stage_of self.old)).remarks) }
         ensures unchanged { IfErr result (λ _. stage_of self.new ≡ stage_of self.old) }
     {
         let immediate = iif(line, column, names, remarks)?;
@@ -214,9 +214,9 @@ impl State {
         remarks: &mut Remarks,
     ) -> Result<(), AllocError>
         ensures after { IfOk result (λ _. stage_of self.new ≡ (spec.acted_repeat
-            (known_by (N.base names.now) (N.stands_for names.now)) line.now.text column (stage_of self.old)).after) }
+            (known_by (N.base names.now) (N.value_of_symbol names.now)) line.now.text column (stage_of self.old)).after) }
         ensures remarks { IfOk result (λ _. remarks.new ≡ joined remarks.old (spec.acted_repeat
-            (known_by (N.base names.now) (N.stands_for names.now)) line.now.text column (stage_of self.old)).remarks) }
+            (known_by (N.base names.now) (N.value_of_symbol names.now)) line.now.text column (stage_of self.old)).remarks) }
         ensures unchanged { IfErr result (λ _. stage_of self.new ≡ stage_of self.old) }
     {
         let count = rept_count(line, column, names, remarks)?;
@@ -229,7 +229,7 @@ impl State {
     // formal and no rounds.
     fn act_repeated(&mut self, alloc: Global, rounds: Option<Rounds>) -> Result<(), AllocError>
         ensures after { IfOk result (λ _. stage_of self.new
-            ≡ spec.opens (spec.repeating (rounds_seen rounds)) (stage_of self.old)) }
+            ≡ spec.opens (spec.repeating (rounds_model rounds)) (stage_of self.old)) }
         ensures unchanged { IfErr result (λ _. stage_of self.new ≡ stage_of self.old) }
     {
         let mut formals = Vec::new(alloc);
@@ -272,9 +272,9 @@ impl State {
 
 // The purpose of the body that follows the header of a macro: to define the macro, or to be discarded if the header has no valid name.
 fn defining(header: Option<Header>) -> Purpose
-    requires { IsFew (header_seen header) }
+    requires { IsFew (header_model header) }
     ensures few { IsPurpose result }
-    ensures purpose { purpose_of result ≡ spec.defining (header_seen header) }
+    ensures purpose { purpose_of result ≡ spec.defining (header_model header) }
 {
     match header {
         Some(header) => Purpose::Defines(header.name, header.formals),

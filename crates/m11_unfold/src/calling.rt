@@ -45,11 +45,11 @@ impl State {
         requires kept { IsKept (stage_of self.old) }
         requires free { self.old.left.has_statement ≡ false }
         ensures own { IfOk result (λ is_own. is_own ≡ (spec.act
-            (known_by (N.base names.now) (N.stands_for names.now)) (stage_of self.old) line.now.text).is_own) }
+            (known_by (N.base names.now) (N.value_of_symbol names.now)) (stage_of self.old) line.now.text).is_own) }
         ensures after { IfOk result (λ _. stage_of self.new ≡ (spec.act
-            (known_by (N.base names.now) (N.stands_for names.now)) (stage_of self.old) line.now.text).after) }
+            (known_by (N.base names.now) (N.value_of_symbol names.now)) (stage_of self.old) line.now.text).after) }
         ensures remarks { IfOk result (λ _. remarks.new ≡ joined remarks.old (spec.act
-            (known_by (N.base names.now) (N.stands_for names.now)) (stage_of self.old) line.now.text).remarks) }
+            (known_by (N.base names.now) (N.value_of_symbol names.now)) (stage_of self.old) line.now.text).remarks) }
         ensures within { IfOk result (λ _. spec.act_fault (stage_of self.old) line.now.text ≡ None) }
         ensures fails { IfErr result (λ fault. Fails (spec.act_fault (stage_of self.old) line.now.text) fault) }
         ensures kept { IfErr result (λ _. IsKept (stage_of self.new)) }
@@ -122,10 +122,10 @@ impl State {
         requires kept { IsKept (stage_of self.old) }
         requires free { self.old.left.has_statement ≡ false }
         ensures after { IfOk result (λ _. stage_of self.new ≡ (spec.acted_call called (actuals_from
-            (known_by (N.base names.now) (N.stands_for names.now)) line.now.text (length called.formals) column)
+            (known_by (N.base names.now) (N.value_of_symbol names.now)) line.now.text (length called.formals) column)
             (stage_of self.old)).after) }
         ensures remarks { IfOk result (λ _. remarks.new ≡ joined remarks.old (spec.acted_call called (actuals_from
-            (known_by (N.base names.now) (N.stands_for names.now)) line.now.text (length called.formals) column)
+            (known_by (N.base names.now) (N.value_of_symbol names.now)) line.now.text (length called.formals) column)
             (stage_of self.old)).remarks) }
         ensures kept { IfErr result (λ _. IsKept (stage_of self.new)) }
     {

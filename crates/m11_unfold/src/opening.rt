@@ -2,7 +2,7 @@
 //! ".REPT directive".)
 
 ghost use Rattle.std.specs.Prelude.{◌≡◌, ◌+◌, ◌≤◌, true, false, length, Some, None, IfOk};
-ghost use Rattle.m11_unfold_bodies.specs.Bodies.{depth_after, depth_inside, nothing_taken, size_of, taken_with};
+ghost use Rattle.m11_unfold_bodies.specs.Bodies.{depth_after, depth_inside, nothing_taken, size_of, partial_body_with};
 ghost use Rattle.m11_unfold_rules.specs.Limits.{most_bytes};
 ghost use Rattle.m11_unfold.specs.Purposes.{IsPurpose, purpose_of};
 
@@ -89,7 +89,7 @@ impl Opening {
         requires room { size_of self.old.taken.body + (length text.now + 1) ≤ most_bytes }
         ensures { IfOk result (λ _. self.new ≡ record {
           purpose = self.old.purpose;
-          taken = taken_with self.old.taken text.now (depth_inside nesting self.old.taken.depth);
+          taken = partial_body_with self.old.taken text.now (depth_inside nesting self.old.taken.depth);
         }) }
     {
         let _closes = self.taken.take(text, nesting)?;

@@ -48,7 +48,7 @@ impl State {
     // if not, nothing has changed.
     // speed: a shorter `advance` for this case, which is the case of most lines.
     #[inline(always)]
-    pub(crate) fn take_live_line(&mut self, line: &mut Line) -> bool
+    pub(crate) fn read_live_line(&mut self, line: &mut Line) -> bool
         ensures moves { result ≡ true → Moves (stage_of self.old) (stage_of self.new) line.new (Ok (MoveResult.Gives false)) }
         ensures free { result ≡ true → self.new.left.has_statement ≡ false }
         ensures unchanged { result ≡ false → self.new ≡ self.old }
@@ -79,7 +79,7 @@ impl State {
         }
         // speed: most lines are those of the source itself, and need no further call
         if self.left.take_source_line(line) {
-            return self.take_line(alloc, line, false);
+            return self.handle_line(alloc, line, false);
         }
         if self.left.is_empty() {
             return Ok(MoveResult::NothingLeft);
@@ -99,7 +99,7 @@ impl State {
         ensures free { IsFree self.new.left.has_statement result }
     {
         match self.left.take(line) {
-            Some(LineOrEnd::Line(is_expanded)) => self.take_line(alloc, line, is_expanded),
+            Some(LineOrEnd::Line(is_expanded)) => self.handle_line(alloc, line, is_expanded),
             Some(LineOrEnd::End(mark)) => {
                 self.opening = None;
                 self.conditions = mark.conditions;
@@ -114,7 +114,7 @@ impl State {
     // speed: inline, since this is called for each line of a source.
     #[tactic(auto, using(crate::proofs::Falling::kept_untaken, crate::proofs::Falling::kept_taken))]
     #[inline(always)]
-    fn take_line(
+    fn handle_line(
         &mut self,
         alloc: Global,
         line: &Line,
@@ -124,7 +124,7 @@ impl State {
         requires free { self.old.left.has_statement ≡ false }
         requires expanded { is_expanded ≡ is_expanding self.old.left.left }
         ensures moves { Results (line_fault (with_line line.now (stage_of self.old)) line.now.text) (is_some self.old.opening)
-            (spec.line_taken self.old.opening line.now (spec.one_taken self.old.left.left (stage_of self.old)))
+            (spec.line_move self.old.opening line.now (spec.one_taken self.old.left.left (stage_of self.old)))
             (stage_of self.new) line.now result }
         ensures kept { IfErr result (λ _. IsKept (stage_of self.new)) }
         ensures free { self.new.left.has_statement ≡ false }
@@ -134,7 +134,7 @@ impl State {
         }
         self.taken += 1;
         if self.opening.is_some() {
-            return match self.take_body_line(alloc, line) {
+            return match self.add_body_line(alloc, line) {
                 Ok(()) => Ok(MoveResult::Passes),
                 Err(fault) => Err(fault),
             };
@@ -150,7 +150,7 @@ impl State {
     // `TooManyMacros` or `TooDeep`; `NoMemory`.
     // speed: a call, since room for a body on the stack would be cleared for each line.
     #[inline(never)]
-    fn take_body_line(&mut self, alloc: Global, line: &Line) -> Result<(), UnfoldFault>
+    fn add_body_line(&mut self, alloc: Global, line: &Line) -> Result<(), UnfoldFault>
         requires kept { IsKept (stage_of self.old) }
         requires open { is_some self.old.opening ≡ true }
         requires free { self.old.left.has_statement ≡ false }
@@ -160,14 +160,19 @@ impl State {
         ensures free { self.new.left.has_statement ≡ false }
     {
         match self.opening.take() {
-            Some(opening) => self.take_into(alloc, opening, line),
+            Some(opening) => self.add_to_body(alloc, opening, line),
             None => Ok(()),
         }
     }
 
-    // Adds a line to a body, or closes the body if the line ends it. Errors: those of `take_body_line`, and then no body is open.
+    // Adds a line to a body, or closes the body if the line ends it. Errors: those of `add_body_line`, and then no body is open.
     #[tactic(auto, using(crate::proofs::Falling::kept_dropped))]
-    fn take_into(&mut self, alloc: Global, opening: Opening, line: &Line) -> Result<(), UnfoldFault>
+    fn add_to_body(
+        &mut self,
+        alloc: Global,
+        opening: Opening,
+        line: &Line,
+    ) -> Result<(), UnfoldFault>
         requires kept { IsKept (record (stage_of self.old) { opening = Some opening }) }
         requires open { self.old.opening ≡ None }
         requires free { self.old.left.has_statement ≡ false }

@@ -125,7 +125,7 @@ impl Unfolder {
     ) -> Result<Act, UnfoldFault>
         requires free { self.old.has_statement ≡ false }
         requires operator { operator ≡ line_operator line.now.text }
-        ensures acts { self.old.fault ≡ None → spec.Acts (known_by (N.base names.now) (N.stands_for names.now))
+        ensures acts { self.old.fault ≡ None → spec.Acts (known_by (N.base names.now) (N.value_of_symbol names.now))
             line.now.text self.old.stage self.new.stage result }
         ensures again { (fault : UnfoldFault) → self.old.fault ≡ Some fault → result ≡ Err fault }
         ensures fault { self.new.fault ≡ result_err result }
@@ -156,7 +156,7 @@ impl State {
         ensures free { spec.IsFree self.new.left.has_statement result }
     {
         // speed: most lines are those of the source itself, and are live; only the others need a call
-        if self.take_live_line(line) {
+        if self.read_live_line(line) {
             Ok(Step::Line(false))
         } else {
             self.move_on(alloc, line)

@@ -4,7 +4,7 @@ use Rattle.std.specs.Prelude.{◌||◌, ◌&&◌, ◌==◌, if◌then◌else◌,
 use Rattle.std.specs.List.{flat_map, list_any}
 use Rattle.m11_base.specs.NameCharacters.{is_name_character}
 use Rattle.m11_scan.specs.Line.{SourceLine}
-use Rattle.m11_unfold_bodies.specs.Bodies.{PartialBody, IsTaken, before_left, body_of, cut_after, cut_at, depth_after, depth_next, depth_past, taken_with, texts_of, with_line, with_lines}
+use Rattle.m11_unfold_bodies.specs.Bodies.{PartialBody, IsPartialBody, before_left, body_of, cut_after, cut_at, depth_after, depth_next, depth_past, partial_body_with, texts_of, with_line, with_lines}
 use Rattle.m11_unfold_bodies.specs.Left.{End, RemainingItem, Line, expanded, round}
 use Rattle.m11_unfold_bodies.specs.Substitution.{Other, Piece, Run, actual_for, begins_replaced, is_replaced, joined, line_with, pieces_of, substituted, text_of}
 use Rattle.m11_unfold_bodies.specs.declared.mark.Mark.{Mark}
@@ -53,12 +53,12 @@ module _ (nesting : List ℕ → Nesting) where
       go None more h = absurd (let bad = h in cc)
       go (Some i) more h = ap (with_line line.text) (more i h)
 
-  pub grown : (taken : PartialBody) (text : List ℕ) (depth : ℕ) → IsTaken nesting taken
-      → depth_after (nesting text) taken.depth ≡ Some depth → IsTaken nesting (taken_with taken text depth)
+  pub grown : (taken : PartialBody) (text : List ℕ) (depth : ℕ) → IsPartialBody nesting taken
+      → depth_after (nesting text) taken.depth ≡ Some depth → IsPartialBody nesting (partial_body_with taken text depth)
   grown taken text depth stands goes = past_more taken.body 0 taken.depth text stands ∙ goes
 
   pub goes_on : (taken : PartialBody) (lines : List SourceLine) (left : List RemainingItem) → texts_of lines ≡ taken.body
-      → IsTaken nesting taken → body_of nesting (before_left lines left) ≡ with_lines taken.body (cut_at nesting taken.depth left)
+      → IsPartialBody nesting taken → body_of nesting (before_left lines left) ≡ with_lines taken.body (cut_at nesting taken.depth left)
   goes_on taken lines left same stands =
       cut_past lines 0 taken.depth left (ap (depth_past nesting 0) same ∙ stands)
       ∙ ap (λ (texts : List (List ℕ)). with_lines texts (cut_at nesting taken.depth left)) same

@@ -74,8 +74,8 @@ pub record PartialBody : Type 0 where
 abbrev pub nothing_taken : PartialBody
 nothing_taken = record { body = []; depth = 0 }
 
-abbrev pub taken_with : PartialBody → Bytes → ℕ → PartialBody
-taken_with taken text depth = record { body = taken.body ++ text ∷ []; depth = depth }
+abbrev pub partial_body_with : PartialBody → Bytes → ℕ → PartialBody
+partial_body_with taken text depth = record { body = taken.body ++ text ∷ []; depth = depth }
 
 abbrev pub depth_next : (ℕ → Option ℕ) → Option ℕ → Option ℕ
 depth_next rest None = None
@@ -86,8 +86,8 @@ abbrev pub depth_past : (Bytes → Nesting) → ℕ → List Bytes → Option �
 depth_past nesting depth [] = Some depth
 depth_past nesting depth (text ∷ texts) = depth_next (λ inside. depth_past nesting inside texts) (depth_after (nesting text) depth)
 
-abbrev pub IsTaken : (Bytes → Nesting) → PartialBody → Type 0
-IsTaken nesting taken = depth_past nesting 0 taken.body ≡ Some taken.depth
+abbrev pub IsPartialBody : (Bytes → Nesting) → PartialBody → Type 0
+IsPartialBody nesting taken = depth_past nesting 0 taken.body ≡ Some taken.depth
 
 abbrev pub texts_of : List SourceLine → List Bytes
 texts_of lines = map (λ line. line.text) lines
@@ -97,8 +97,8 @@ abbrev pub before_left : List SourceLine → List RemainingItem → List Remaini
 before_left lines left = map (λ line. Line line) lines ++ left
 
 -- a body gets one more line; or the line closes the body, or memory was refused, and the body is as before
-abbrev pub TakesLine : {E : Type 0} → PartialBody → PartialBody → Bytes → Nesting → Result Bool E → Type 0
-TakesLine old new text nesting (Ok true) = (depth_after nesting old.depth ≡ None) × (new ≡ old)
-TakesLine old new text nesting (Ok false) =
+abbrev pub AddsLine : {E : Type 0} → PartialBody → PartialBody → Bytes → Nesting → Result Bool E → Type 0
+AddsLine old new text nesting (Ok true) = (depth_after nesting old.depth ≡ None) × (new ≡ old)
+AddsLine old new text nesting (Ok false) =
     (depth_after nesting old.depth ≡ Some new.depth) × (new.body ≡ old.body ++ text ∷ [])
-TakesLine old new text nesting (Err error) = new ≡ old
+AddsLine old new text nesting (Err error) = new ≡ old

@@ -4,7 +4,7 @@ ghost use Rattle.std.specs.Prelude.{◌≡◌, ◌∷◌, ◌++◌, [], ℕ, Boo
 ghost use Rattle.std.specs.List.{list_any};
 ghost use Rattle.m11_base.specs.Devices.{Bytes};
 ghost use Rattle.m11_base.specs.Rad50.{Name};
-ghost use Rattle.m11_unfold_bodies.specs.Bodies.{PartialBody, IsTaken, before_left, body_of, cut_at, nothing_taken, taken_with, depth_after, texts_of, with_lines};
+ghost use Rattle.m11_unfold_bodies.specs.Bodies.{PartialBody, IsPartialBody, before_left, body_of, cut_at, nothing_taken, partial_body_with, depth_after, texts_of, with_lines};
 ghost use Rattle.m11_unfold_bodies.specs.Conditions.{OpenConditions, closed, entering, is_live_in, is_skipping};
 ghost use Rattle.m11_unfold_bodies.specs.Conditions.{nested, past, switched, unnested};
 ghost use Rattle.m11_unfold_bodies.specs.Laws.{Inside, IsReplacedBy, IsWord, SkippedInside, begins_in_word, ends_in_word};
@@ -60,12 +60,12 @@ pub fn quotes_beside_a_formal_vanish()
 
 /// The reading of a body can stop after any line and resume there: the rest is cut as if the lines already read still preceded
 /// it.
-pub fn half_taken_bodies_go_on()
-    ensures begins { (nesting : Bytes → Nesting) → IsTaken nesting nothing_taken }
-    ensures grows { (nesting : Bytes → Nesting) (taken : PartialBody) (text : Bytes) (depth : ℕ) → IsTaken nesting taken
-        → depth_after (nesting text) taken.depth ≡ Some depth → IsTaken nesting (taken_with taken text depth) }
+pub fn half_read_bodies_go_on()
+    ensures begins { (nesting : Bytes → Nesting) → IsPartialBody nesting nothing_taken }
+    ensures grows { (nesting : Bytes → Nesting) (taken : PartialBody) (text : Bytes) (depth : ℕ) → IsPartialBody nesting taken
+        → depth_after (nesting text) taken.depth ≡ Some depth → IsPartialBody nesting (partial_body_with taken text depth) }
     ensures cuts { (nesting : Bytes → Nesting) (taken : PartialBody) (lines : List SourceLine) (left : List RemainingItem)
-        → texts_of lines ≡ taken.body → IsTaken nesting taken
+        → texts_of lines ≡ taken.body → IsPartialBody nesting taken
         → body_of nesting (before_left lines left) ≡ with_lines taken.body (cut_at nesting taken.depth left) }
 {}
 

@@ -37,6 +37,6 @@ mod laws;
 
 pub use laws::{
     a_formal_gives_way_with_a_quote_on_each_side, an_endc_undoes_its_if,
-    expansions_are_rounds_and_an_end, formals_alone_are_replaced, half_taken_bodies_go_on,
+    expansions_are_rounds_and_an_end, formals_alone_are_replaced, half_read_bodies_go_on,
     quotes_beside_a_formal_vanish, the_last_switch_decides,
 };

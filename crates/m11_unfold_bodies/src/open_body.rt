@@ -61,7 +61,7 @@ impl OpenBody {
     ///
     /// Error: memory was refused. The body is then unchanged.
     pub fn take(&mut self, text: &[u8], nesting: Nesting) -> Result<bool, AllocError>
-        ensures { spec.TakesLine self.old self.new text.now nesting result }
+        ensures { spec.AddsLine self.old self.new text.now nesting result }
     {
         if is_close(nesting, self.depth) {
             return Ok(true);

@@ -2,7 +2,7 @@
 use Rattle.std.proofs.Common.{◌≡◌, ◌∙◌, ◌⊎◌, inl, inr, ℕ, suc, ◌+◌, true, false, List, [], ◌∷◌, ◌++◌, length, append_assoc, append-nil, Option, Some, None, refl, sym, ap, subst, arith}
 use Rattle.m11_base.specs.Devices.{Bytes}
 use Rattle.m11_scan.specs.Line.{SourceLine}
-use Rattle.m11_unfold_bodies.specs.Bodies.{Cut, PartialBody, cut_after, cut_at, depth_after, taken_with}
+use Rattle.m11_unfold_bodies.specs.Bodies.{Cut, PartialBody, cut_after, cut_at, depth_after, partial_body_with}
 use Rattle.m11_unfold_bodies.specs.Left.{RemainingItem, Line, End}
 use Rattle.m11_unfold_rules.specs.Stages.{Purpose, Stage}
 use Rattle.m11_unfold_rules.specs.Taking.{Passes, ended, into_body, move, nesting, one_taken, used}
@@ -51,7 +51,7 @@ module _ (purpose : Purpose) where
       let before : Stage = open_at stage half taken (Line line ∷ left) in
       let inner : Cut = cut_at nesting depth left in
       let shut : inner.is_closed ≡ true = ap (λ (c : Cut). c.is_closed) same ∙ closed in
-      let half' : PartialBody = taken_with half line.text depth in
+      let half' : PartialBody = partial_body_with half line.text depth in
       let mid : Stage = open_at stage half' (taken + 1) left in
       let body : (half.body ++ line.text ∷ []) ++ inner.body ≡ half.body ++ line.text ∷ inner.body
       = append_assoc half.body (line.text ∷ []) inner.body in
@@ -107,7 +107,7 @@ module _ (purpose : Purpose) where
       let before : Stage = open_at stage half taken (Line line ∷ left) in
       let inner : Cut = cut_at nesting depth left in
       let shut : inner.is_closed ≡ false = ap (λ (c : Cut). c.is_closed) same ∙ isn in
-      let half' : PartialBody = taken_with half line.text depth in
+      let half' : PartialBody = partial_body_with half line.text depth in
       let mid : Stage = open_at stage half' (taken + 1) left in
       let body : (half.body ++ line.text ∷ []) ++ inner.body ≡ half.body ++ line.text ∷ inner.body
       = append_assoc half.body (line.text ∷ []) inner.body in

@@ -9,7 +9,7 @@ use Rattle.m11_unfold_rules.specs.Acting.{act_fault}
 use Rattle.m11_unfold_rules.specs.Histories.{GoesOn, IsKnownBy}
 use Rattle.m11_unfold_rules.specs.Limits.{next_fault}
 use Rattle.m11_unfold_rules.specs.Stages.{Stage, line_left, start}
-use Rattle.m11_unfold_rules.specs.Taking.{Gives, Live, Passes, NothingLeft, line_taken, move, one_taken, skipped}
+use Rattle.m11_unfold_rules.specs.Taking.{Gives, Live, Passes, NothingLeft, line_move, move, one_taken, skipped}
 use Rattle.m11_unfold_rules.specs.Unfolding.{UnfoldedLine, Leads, Unfolds}
 use Rattle.m11_unfold_rules.specs.Unfolding as steps
 use Rattle.m11_unfold_rules.proofs.Cases.{fault_from, live_or_skipped, move_from}
@@ -134,7 +134,7 @@ no_limit_at_rest stage rests (limits.PassesLimit.Taking fault is) = by_end stage
   no_rest (Some conditions) line s is = absurd (let bad = is in cc)
   no_rest None line s is = absurd (let bad = is in cc)
 
-  no_rest_line : (opening : Option _) (line : SourceLine) (s : Stage) → line_taken opening line s ≡ NothingLeft → ⊥
+  no_rest_line : (opening : Option _) (line : SourceLine) (s : Stage) → line_move opening line s ≡ NothingLeft → ⊥
   no_rest_line (Some opening) line s is = absurd (let bad = is in cc)
   no_rest_line None line s is = no_rest (skipped s.conditions line.text) line s is
 

@@ -24,9 +24,9 @@ use Rattle.m11_unfold_laws.specs.Worked.{inner_line, source_line, twice_body, tw
 use Rattle.m11_unfold_laws.specs.Worked as worked
 use Rattle.m11_unfold_laws.proofs.Walks.{walked}
 
-module _ (stands_for : Symbol → Quantity) where
+module _ (value_of_symbol : Symbol → Quantity) where
   abbrev known : KnownSymbols
-  known = known_by Octal stands_for
+  known = known_by Octal value_of_symbol
 
   abbrev first : SourceLine
   first = line_of (codes " .MACRO TWICE ?L")
@@ -98,24 +98,24 @@ module _ (stands_for : Symbol → Quantity) where
   branch_other_1 = shapes.IsOther.Other
 
   rounds_1 : Shape in_rounds (made 30001 10) (nop ∷ nop ∷ [])
-      (inner_line stands_for (codes " NOP") ∷ inner_line stands_for (codes " NOP") ∷ [])
+      (inner_line value_of_symbol (codes " NOP") ∷ inner_line value_of_symbol (codes " NOP") ∷ [])
       (made 30001 12) shapes.Ending.GoesOn
   rounds_1 =
       shapes.Shape.Other in_rounds (made 30001 10) (made 30001 12) shapes.Ending.GoesOn known nop (nop ∷ [])
-      (inner_line stands_for (codes " NOP") ∷ []) (nop_1 10)
+      (inner_line value_of_symbol (codes " NOP") ∷ []) (nop_1 10)
       (shapes.Shape.Other in_rounds (made 30001 11) (made 30001 12) shapes.Ending.GoesOn known nop [] [] (nop_1 11)
       (shapes.Shape.Nothing in_rounds (made 30001 12)))
 
   inside_1 : Shape in_call (made 30001 7) (repeat_line_1 ∷ repeat_rest_1)
-      (worked.repeat_line stands_for (codes "30000$: .REPT 2") ∷ inner_line stands_for (codes " NOP")
-      ∷ inner_line stands_for (codes " NOP")
-      ∷ inner_line stands_for (codes " BR 30000$") ∷ []) (made 30001 13) shapes.Ending.GoesOn
+      (worked.repeat_line value_of_symbol (codes "30000$: .REPT 2") ∷ inner_line value_of_symbol (codes " NOP")
+      ∷ inner_line value_of_symbol (codes " NOP")
+      ∷ inner_line value_of_symbol (codes " BR 30000$") ∷ []) (made 30001 13) shapes.Ending.GoesOn
   unfolding alphabet code_of
   inside_1 =
       shapes.Shape.Expansion in_call (made 30001 7) (made 30001 12) (made 30001 13) shapes.Ending.GoesOn
       shapes.Ending.GoesOn known repeat_line_1 repeat_rest_1
-      (inner_line stands_for (codes " NOP") ∷ inner_line stands_for (codes " NOP") ∷ [])
-      (inner_line stands_for (codes " BR 30000$") ∷ [])
+      (inner_line value_of_symbol (codes " NOP") ∷ inner_line value_of_symbol (codes " NOP") ∷ [])
+      (inner_line value_of_symbol (codes " BR 30000$") ∷ [])
       put_1 repeat_puts_1 rounds_1 tt
       (shapes.Shape.Other in_call (made 30001 12) (made 30001 13) shapes.Ending.GoesOn known branch_1 [] []
       branch_other_1 (shapes.Shape.Nothing in_call (made 30001 13)))
@@ -138,17 +138,17 @@ module _ (stands_for : Symbol → Quantity) where
   then_1 : (others : List SourceLine) (later : List UnfoldedLine)
       → Shape source_level (made 30001 13) others later worked_end shapes.Ending.GoesOn
       → Shape source_level (made 30000 6) (call ∷ others)
-      (source_line stands_for (codes " TWICE") ∷ worked.repeat_line stands_for (codes "30000$: .REPT 2")
-      ∷ inner_line stands_for (codes " NOP") ∷ inner_line stands_for (codes " NOP") ∷ inner_line stands_for (codes " BR 30000$")
+      (source_line value_of_symbol (codes " TWICE") ∷ worked.repeat_line value_of_symbol (codes "30000$: .REPT 2")
+      ∷ inner_line value_of_symbol (codes " NOP") ∷ inner_line value_of_symbol (codes " NOP") ∷ inner_line value_of_symbol (codes " BR 30000$")
       ∷ later)
       worked_end shapes.Ending.GoesOn
   unfolding call_put_1
   then_1 others later next =
       shapes.Shape.Expansion source_level (made 30000 6) (made 30001 13) worked_end shapes.Ending.GoesOn
       shapes.Ending.GoesOn known call others
-      (worked.repeat_line stands_for (codes "30000$: .REPT 2") ∷ inner_line stands_for (codes " NOP")
-      ∷ inner_line stands_for (codes " NOP")
-      ∷ inner_line stands_for (codes " BR 30000$") ∷ []) later (call_put_1 others) (call_puts_1 others) inside_1 tt next
+      (worked.repeat_line value_of_symbol (codes "30000$: .REPT 2") ∷ inner_line value_of_symbol (codes " NOP")
+      ∷ inner_line value_of_symbol (codes " NOP")
+      ∷ inner_line value_of_symbol (codes " BR 30000$") ∷ []) later (call_put_1 others) (call_puts_1 others) inside_1 tt next
 
   -- ---- the call that creates 30001$
 
@@ -179,24 +179,24 @@ module _ (stands_for : Symbol → Quantity) where
   branch_other_2 = shapes.IsOther.Other
 
   rounds_2 : Shape in_rounds (made 30002 17) (nop ∷ nop ∷ [])
-      (inner_line stands_for (codes " NOP") ∷ inner_line stands_for (codes " NOP") ∷ [])
+      (inner_line value_of_symbol (codes " NOP") ∷ inner_line value_of_symbol (codes " NOP") ∷ [])
       (made 30002 19) shapes.Ending.GoesOn
   rounds_2 =
       shapes.Shape.Other in_rounds (made 30002 17) (made 30002 19) shapes.Ending.GoesOn known nop (nop ∷ [])
-      (inner_line stands_for (codes " NOP") ∷ []) (nop_2 17)
+      (inner_line value_of_symbol (codes " NOP") ∷ []) (nop_2 17)
       (shapes.Shape.Other in_rounds (made 30002 18) (made 30002 19) shapes.Ending.GoesOn known nop [] [] (nop_2 18)
       (shapes.Shape.Nothing in_rounds (made 30002 19)))
 
   inside_2 : Shape in_call (made 30002 14) (repeat_line_2 ∷ repeat_rest_2)
-      (worked.repeat_line stands_for (codes "30001$: .REPT 2") ∷ inner_line stands_for (codes " NOP")
-      ∷ inner_line stands_for (codes " NOP")
-      ∷ inner_line stands_for (codes " BR 30001$") ∷ []) (made 30002 20) shapes.Ending.GoesOn
+      (worked.repeat_line value_of_symbol (codes "30001$: .REPT 2") ∷ inner_line value_of_symbol (codes " NOP")
+      ∷ inner_line value_of_symbol (codes " NOP")
+      ∷ inner_line value_of_symbol (codes " BR 30001$") ∷ []) (made 30002 20) shapes.Ending.GoesOn
   unfolding alphabet code_of
   inside_2 =
       shapes.Shape.Expansion in_call (made 30002 14) (made 30002 19) (made 30002 20) shapes.Ending.GoesOn
       shapes.Ending.GoesOn known repeat_line_2 repeat_rest_2
-      (inner_line stands_for (codes " NOP") ∷ inner_line stands_for (codes " NOP") ∷ [])
-      (inner_line stands_for (codes " BR 30001$") ∷ [])
+      (inner_line value_of_symbol (codes " NOP") ∷ inner_line value_of_symbol (codes " NOP") ∷ [])
+      (inner_line value_of_symbol (codes " BR 30001$") ∷ [])
       put_2 repeat_puts_2 rounds_2 tt
       (shapes.Shape.Other in_call (made 30002 19) (made 30002 20) shapes.Ending.GoesOn known branch_2 [] []
       branch_other_2 (shapes.Shape.Nothing in_call (made 30002 20)))
@@ -219,44 +219,44 @@ module _ (stands_for : Symbol → Quantity) where
   then_2 : (others : List SourceLine) (later : List UnfoldedLine)
       → Shape source_level (made 30002 20) others later worked_end shapes.Ending.GoesOn
       → Shape source_level (made 30001 13) (call ∷ others)
-      (source_line stands_for (codes " TWICE") ∷ worked.repeat_line stands_for (codes "30001$: .REPT 2")
-      ∷ inner_line stands_for (codes " NOP") ∷ inner_line stands_for (codes " NOP") ∷ inner_line stands_for (codes " BR 30001$")
+      (source_line value_of_symbol (codes " TWICE") ∷ worked.repeat_line value_of_symbol (codes "30001$: .REPT 2")
+      ∷ inner_line value_of_symbol (codes " NOP") ∷ inner_line value_of_symbol (codes " NOP") ∷ inner_line value_of_symbol (codes " BR 30001$")
       ∷ later)
       worked_end shapes.Ending.GoesOn
   unfolding call_put_2
   then_2 others later next =
       shapes.Shape.Expansion source_level (made 30001 13) (made 30002 20) worked_end shapes.Ending.GoesOn
       shapes.Ending.GoesOn known call others
-      (worked.repeat_line stands_for (codes "30001$: .REPT 2") ∷ inner_line stands_for (codes " NOP")
-      ∷ inner_line stands_for (codes " NOP")
-      ∷ inner_line stands_for (codes " BR 30001$") ∷ []) later (call_put_2 others) (call_puts_2 others) inside_2 tt next
+      (worked.repeat_line value_of_symbol (codes "30001$: .REPT 2") ∷ inner_line value_of_symbol (codes " NOP")
+      ∷ inner_line value_of_symbol (codes " NOP")
+      ∷ inner_line value_of_symbol (codes " BR 30001$") ∷ []) later (call_put_2 others) (call_puts_2 others) inside_2 tt next
 
   -- ---- the whole
 
   abbrev second_call : List UnfoldedLine
   second_call =
-      source_line stands_for (codes " TWICE") ∷ worked.repeat_line stands_for (codes "30001$: .REPT 2")
-      ∷ inner_line stands_for (codes " NOP") ∷ inner_line stands_for (codes " NOP") ∷ inner_line stands_for (codes " BR 30001$")
+      source_line value_of_symbol (codes " TWICE") ∷ worked.repeat_line value_of_symbol (codes "30001$: .REPT 2")
+      ∷ inner_line value_of_symbol (codes " NOP") ∷ inner_line value_of_symbol (codes " NOP") ∷ inner_line value_of_symbol (codes " BR 30001$")
       ∷ []
 
   abbrev both_calls : List UnfoldedLine
   both_calls =
-      source_line stands_for (codes " TWICE") ∷ worked.repeat_line stands_for (codes "30000$: .REPT 2")
-      ∷ inner_line stands_for (codes " NOP") ∷ inner_line stands_for (codes " NOP") ∷ inner_line stands_for (codes " BR 30000$")
+      source_line value_of_symbol (codes " TWICE") ∷ worked.repeat_line value_of_symbol (codes "30000$: .REPT 2")
+      ∷ inner_line value_of_symbol (codes " NOP") ∷ inner_line value_of_symbol (codes " NOP") ∷ inner_line value_of_symbol (codes " BR 30000$")
       ∷ second_call
 
-  pub as_worked : Shape source_level beginning worked_source (worked_lines stands_for) worked_end shapes.Ending.GoesOn
+  pub as_worked : Shape source_level beginning worked_source (worked_lines value_of_symbol) worked_end shapes.Ending.GoesOn
   as_worked =
       shapes.Shape.Definition source_level beginning worked_end shapes.Ending.GoesOn known first body_lines calls both_calls
       no_remarks twice_name
       twice_formals twice_body opens_macro has_body
       (then_1 (call ∷ []) second_call (then_2 [] [] (shapes.Shape.Nothing source_level worked_end)))
 
-  pub unfolds_so : HasLiveLines worked_source (worked_lines stands_for)
+  pub unfolds_so : HasLiveLines worked_source (worked_lines value_of_symbol)
   unfolding alphabet code_of first_piece value_of
   unfolds_so =
       let all = walked 60 known (start worked_source) (record {
-        gives = worked_lines stands_for;
+        gives = worked_lines value_of_symbol;
         after
             = stage_of source_level worked_end [];
       }) refl in

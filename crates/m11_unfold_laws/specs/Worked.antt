@@ -28,9 +28,9 @@ worked_source = map line_of
 
 -- a live line without flags or symbols; the Booleans say whether it belongs to unfolding, and whether it comes from an expansion
 abbrev pub worked_line : (Symbol → Quantity) → Bytes → Bool → Bool → Option ℕ → UnfoldedLine
-worked_line stands_for text is_own is_expanded arguments = record {
+worked_line value_of_symbol text is_own is_expanded arguments = record {
   live = record { line = line_of text; is_expanded = is_expanded };
-  known = known_by Octal stands_for;
+  known = known_by Octal value_of_symbol;
   is_own = is_own;
   remarks = no_remarks;
   arguments = arguments;
@@ -39,28 +39,28 @@ worked_line stands_for text is_own is_expanded arguments = record {
 -- a line of the source itself, which belongs to unfolding; the next two definitions are for lines in the expansion of a call without
 -- actuals: the `.REPT` line, and a line that doesn't belong to unfolding
 abbrev pub source_line : (Symbol → Quantity) → Bytes → UnfoldedLine
-source_line stands_for text = worked_line stands_for text true false None
+source_line value_of_symbol text = worked_line value_of_symbol text true false None
 
 abbrev pub repeat_line : (Symbol → Quantity) → Bytes → UnfoldedLine
-repeat_line stands_for text = worked_line stands_for text true true (Some 0)
+repeat_line value_of_symbol text = worked_line value_of_symbol text true true (Some 0)
 
 abbrev pub inner_line : (Symbol → Quantity) → Bytes → UnfoldedLine
-inner_line stands_for text = worked_line stands_for text false true (Some 0)
+inner_line value_of_symbol text = worked_line value_of_symbol text false true (Some 0)
 
 -- the live lines, whatever the values of symbols
 abbrev pub worked_lines : (Symbol → Quantity) → List UnfoldedLine
-worked_lines stands_for =
-    source_line stands_for (codes " .MACRO TWICE ?L")
-    ∷ source_line stands_for (codes " TWICE")
-    ∷ repeat_line stands_for (codes "30000$: .REPT 2")
-    ∷ inner_line stands_for (codes " NOP")
-    ∷ inner_line stands_for (codes " NOP")
-    ∷ inner_line stands_for (codes " BR 30000$")
-    ∷ source_line stands_for (codes " TWICE")
-    ∷ repeat_line stands_for (codes "30001$: .REPT 2")
-    ∷ inner_line stands_for (codes " NOP")
-    ∷ inner_line stands_for (codes " NOP")
-    ∷ inner_line stands_for (codes " BR 30001$")
+worked_lines value_of_symbol =
+    source_line value_of_symbol (codes " .MACRO TWICE ?L")
+    ∷ source_line value_of_symbol (codes " TWICE")
+    ∷ repeat_line value_of_symbol (codes "30000$: .REPT 2")
+    ∷ inner_line value_of_symbol (codes " NOP")
+    ∷ inner_line value_of_symbol (codes " NOP")
+    ∷ inner_line value_of_symbol (codes " BR 30000$")
+    ∷ source_line value_of_symbol (codes " TWICE")
+    ∷ repeat_line value_of_symbol (codes "30001$: .REPT 2")
+    ∷ inner_line value_of_symbol (codes " NOP")
+    ∷ inner_line value_of_symbol (codes " NOP")
+    ∷ inner_line value_of_symbol (codes " BR 30001$")
     ∷ []
 
 -- the macro, and the situation at the end: 29 bytes in its body, two created symbols, and twenty lines read

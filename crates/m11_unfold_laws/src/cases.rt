@@ -90,7 +90,7 @@ pub fn conditions_have_a_shape()
 /// The source worked out by hand has the shape and the live lines stated for it. It calls a macro twice; the macro has a repeat,
 /// and a label that differs in each call.
 pub fn two_calls_with_a_repeat_are_as_worked()
-    ensures shape { (stands_for : Symbol → Quantity)
-        → Shape source_level beginning worked_source (worked_lines stands_for) worked_end GoesOn }
-    ensures lines { (stands_for : Symbol → Quantity) → HasLiveLines worked_source (worked_lines stands_for) }
+    ensures shape { (value_of_symbol : Symbol → Quantity)
+        → Shape source_level beginning worked_source (worked_lines value_of_symbol) worked_end GoesOn }
+    ensures lines { (value_of_symbol : Symbol → Quantity) → HasLiveLines worked_source (worked_lines value_of_symbol) }
 {}

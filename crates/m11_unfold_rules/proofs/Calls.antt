@@ -12,8 +12,8 @@ use Rattle.m11_unfold_bodies.specs.Conditions.{no_conditions}
 use Rattle.m11_unfold_bodies.specs.Left.{RemainingItem, Line, End, depth, expanded, most_expansions}
 use Rattle.m11_unfold_bodies.specs.declared.mark.Mark.{Mark}
 use Rattle.m11_unfold_rules.specs.Acting.{Acted, act, act_fault, acted_by, own}
-use Rattle.m11_unfold_rules.specs.Constructs.{IsCall, after_call, before_call, expanded_given, round_lines}
-use Rattle.m11_unfold_rules.specs.Laws.{AreForeign, IsLive, foreign_given, own_given}
+use Rattle.m11_unfold_rules.specs.Constructs.{IsCall, after_call, before_call, expanded_live_line, round_lines}
+use Rattle.m11_unfold_rules.specs.Laws.{AreForeign, IsLive, foreign_live_line, own_live_line}
 use Rattle.m11_unfold_rules.specs.Limits.{fault_if, most_lines}
 use Rattle.m11_unfold_rules.specs.Stages.{Stage, line_left}
 use Rattle.m11_unfold_rules.specs.Unfolding.{Leads}
@@ -34,8 +34,8 @@ one_expansion body mark left = as_lines [] ([] ∷ []) body mark left
 pub called : (known : KnownSymbols) (stage : Stage) (line : SourceLine) (body : List Bytes) (column : ℕ) (left : List RemainingItem) → IsLive stage
     → IsCall stage line body column → AreForeign stage (map line_of body) → depth left < most_expansions
     → stage.taken + 1 + length body ≤ most_lines
-    → Leads (before_call stage line left) (own_given known left line (actuals_from known line.text 0 column).remarks
-    ∷ map (expanded_given known (Some 0)) (map line_of body)) (after_call stage body left)
+    → Leads (before_call stage line left) (own_live_line known left line (actuals_from known line.text 0 column).remarks
+    ∷ map (expanded_live_line known (Some 0)) (map line_of body)) (after_call stage body left)
 called known stage line body column left live is foreign shallow most =
     let remarks : Remarks = (actuals_from known line.text 0 column).remarks in
     let lines : List SourceLine = map line_of body in
@@ -56,10 +56,10 @@ called known stage line body column left live is foreign shallow most =
     let most' : stage.taken + 1 + length lines ≤ most_lines = omega (arith, long, most) in
     let runs = expansion_runs known stage.macros stage.defined_bytes stage.created (stage.taken + 1) mark lines left same most' in
     let last : ℕ → Stage = λ n. stage_at stage.conditions stage.macros stage.defined_bytes stage.created n left in
-    let whole = follows before done.after (last (stage.taken + 1 + length lines)) (own_given known left line remarks ∷ [])
-    (map (foreign_given known (End mark ∷ left)) lines) first runs in
-    let P : ℕ → Type 0 = λ n. Leads before (own_given known left line remarks ∷ map (expanded_given known (Some 0)) lines)
+    let whole = follows before done.after (last (stage.taken + 1 + length lines)) (own_live_line known left line remarks ∷ [])
+    (map (foreign_live_line known (End mark ∷ left)) lines) first runs in
+    let P : ℕ → Type 0 = λ n. Leads before (own_live_line known left line remarks ∷ map (expanded_live_line known (Some 0)) lines)
     (last (stage.taken + 1 + n)) in
-    let stood : Leads before (own_given known left line remarks ∷ map (expanded_given known (Some 0)) lines)
+    let stood : Leads before (own_live_line known left line remarks ∷ map (expanded_live_line known (Some 0)) lines)
     (last (stage.taken + 1 + length body)) = subst P long whole in
     rw (live.no_body, live.going_on) stood

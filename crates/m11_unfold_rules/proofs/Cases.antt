@@ -26,14 +26,14 @@ use Rattle.m11_unfold_bodies.specs.Bodies.{depth_after, size_of}
 use Rattle.m11_unfold_bodies.specs.Conditions.{OpenConditions}
 use Rattle.m11_unfold_bodies.specs.Left.{RemainingItem, Line, End, is_expanding}
 use Rattle.m11_unfold_rules.specs.Acting.{Operation, Calls, OwnDirective, Foreign, operation_of}
-use Rattle.m11_unfold_rules.specs.Actuals.{ActualTexts, characters, followed_by, given_by, nothing_given, numeral}
+use Rattle.m11_unfold_rules.specs.Actuals.{ActualTexts, characters, followed_by, given_by, no_actual_texts, numeral}
 use Rattle.m11_unfold_rules.specs.Conditions.{ConditionResult, actual_flags, asked, asked_at, matched, passes, refused, second_at, text_of}
 use Rattle.m11_unfold_rules.specs.Definedness.{Tested, at_last}
 use Rattle.m11_unfold_rules.specs.Directives.{directive_named}
 use Rattle.m11_unfold_rules.specs.Headers.{MacroHeader, NextListed, Ending, Formally, formal_start, formals_after}
 use Rattle.m11_unfold_rules.specs.Limits.{body_fault, depth_fault, line_fault}
 use Rattle.m11_unfold_rules.specs.Stages.{Macro, Opening, Stage}
-use Rattle.m11_unfold_rules.specs.Taking.{Gives, Move, Passes, NothingLeft, ended, line_taken, nesting, one_taken}
+use Rattle.m11_unfold_rules.specs.Taking.{Gives, Move, Passes, NothingLeft, ended, line_move, nesting, one_taken}
 use Rattle.m11_unfold_rules.specs.declared.definedness.Joint.{Joint}
 use Rattle.m11_unfold_rules.specs.declared.definedness.SoFar.{SoFar}
 use Rattle.m11_unfold_rules.specs.declared.directives.Directive.{Directive}
@@ -92,7 +92,7 @@ given_as known line actual Bracketed = characters line actual
 given_as known line actual Digits = numeral known line actual.inside.start
 
 abbrev pub wanted_by : KnownSymbols → Bytes → (ℕ → ActualTexts) → Option Actual → ActualTexts
-wanted_by known line more None = nothing_given
+wanted_by known line more None = no_actual_texts
 wanted_by known line more (Some actual) =
     followed_by (given_by known line actual) (more (separator_at line actual.end).end)
 
@@ -175,5 +175,5 @@ abbrev pub move_from : List RemainingItem → Stage → Move
 move_from left stage = elim left [
   | [] ↦ NothingLeft
   | End mark ∷ left ↦ Passes (ended mark left stage)
-  | Line line ∷ left ↦ line_taken stage.opening line (one_taken left stage)
+  | Line line ∷ left ↦ line_move stage.opening line (one_taken left stage)
 ]

@@ -9,7 +9,7 @@ use Rattle.m11_unfold_bodies.specs.Conditions.{OpenConditions, is_skipping}
 use Rattle.m11_unfold_bodies.specs.Left.{RemainingItem, Line, End, after_mark, count_in, has_mark, argument_count, is_expanding, marks}
 use Rattle.m11_unfold_bodies.specs.declared.mark.Mark.{Mark}
 use Rattle.m11_unfold_rules.specs.Acting.{Acted, act, act_fault, acted_by, flagged, own}
-use Rattle.m11_unfold_rules.specs.Laws.{IsDirective, IsLive, after_exit, before_exit, exit_given}
+use Rattle.m11_unfold_rules.specs.Laws.{IsDirective, IsLive, after_exit, before_exit, exit_live_line}
 use Rattle.m11_unfold_rules.specs.Limits.{most_lines}
 use Rattle.m11_unfold_rules.specs.Stages.{Macro, Stage, line_left}
 use Rattle.m11_unfold_rules.specs.Taking.{Live, ended}
@@ -54,7 +54,7 @@ past_lines (line ∷ rest) mark left = past_lines rest mark left
 
 pub exits : (known : KnownSymbols) (stage : Stage) (line : SourceLine) (column : ℕ) (rest : List SourceLine) (mark : Mark) (left : List RemainingItem)
     → IsLive stage → IsDirective stage line word.Mexit column → stage.taken + 1 ≤ most_lines
-    → Leads (before_exit stage line rest mark left) (exit_given known mark left line (flagged 0 line.text column) ∷ [])
+    → Leads (before_exit stage line rest mark left) (exit_live_line known mark left line (flagged 0 line.text column) ∷ [])
     (after_exit stage mark left)
 exits known stage line column rest mark left live is most =
     let all : List RemainingItem = map line_left rest ++ End mark ∷ left in
@@ -79,7 +79,7 @@ exits known stage line column rest mark left live is most =
       arguments = count_in m;
     } in
     let P : List Mark → Type 0 = λ m. Leads before (told m ∷ []) after in
-    let first : Leads before (exit_given known mark left line (flagged 0 line.text column) ∷ []) after = subst P marked gives in
-    let last = steps.Leads.Passing (exit_given known mark left line (flagged 0 line.text column) ∷ []) after (ended mark left after) first
+    let first : Leads before (exit_live_line known mark left line (flagged 0 line.text column) ∷ []) after = subst P marked gives in
+    let last = steps.Leads.Passing (exit_live_line known mark left line (flagged 0 line.text column) ∷ []) after (ended mark left after) first
     refl refl in
     rw (live.no_body, live.going_on) last

@@ -14,7 +14,7 @@ use Rattle.m11_unfold_bodies.specs.Substitution.{Piece, Run, Other, actual_named
 use Rattle.m11_unfold_bodies.specs.declared.mark.Mark.{Mark}
 use Rattle.m11_unfold_bodies.proofs.Whole.{unchanged}
 use Rattle.m11_unfold_rules.specs.Constructs.{lines_of_rounds, round_lines, times}
-use Rattle.m11_unfold_rules.specs.Laws.{foreign_given}
+use Rattle.m11_unfold_rules.specs.Laws.{foreign_live_line}
 use Rattle.m11_unfold_rules.specs.Limits.{most_lines}
 use Rattle.m11_unfold_rules.specs.Stages.{Macro, Stage, line_left}
 use Rattle.m11_unfold_rules.specs.Taking.{ended}
@@ -75,11 +75,11 @@ as_lines formals rounds body mark left = ap (λ (l : List RemainingItem). l ++ E
 pub expansion_runs : (known : KnownSymbols) (macros : List (Name × Macro)) (bytes created taken : ℕ) (mark : Mark)
     (lines : List SourceLine) (left : List RemainingItem) → ForeignHere no_conditions macros lines → taken + length lines ≤ most_lines
     → Leads (stage_at no_conditions macros bytes created taken (map line_left lines ++ End mark ∷ left))
-    (map (foreign_given known (End mark ∷ left)) lines)
+    (map (foreign_live_line known (End mark ∷ left)) lines)
     (stage_at mark.conditions macros bytes created (taken + length lines) left)
 expansion_runs known macros bytes created taken mark lines left foreign most =
     let before : Stage = stage_at no_conditions macros bytes created taken (map line_left lines ++ End mark ∷ left) in
     let last : Stage = stage_at no_conditions macros bytes created (taken + length lines) (End mark ∷ left) in
     let live = onwards before known no_conditions macros bytes created (End mark ∷ left) refl lines taken [] foreign most
     steps.Leads.Stays in
-    steps.Leads.Passing (map (foreign_given known (End mark ∷ left)) lines) last (ended mark left last) live refl refl
+    steps.Leads.Passing (map (foreign_live_line known (End mark ∷ left)) lines) last (ended mark left last) live refl refl

@@ -23,7 +23,7 @@ use Rattle.m11_unfold_rules.specs.Acting.{Acted, Operation, Calls, OwnDirective,
 use Rattle.m11_unfold_rules.specs.Histories.{with_more}
 use Rattle.m11_unfold_rules.specs.Limits.{body_fault, bytes_of, closing_fault, depth_fault, fault_if, has_room, line_fault, most_bytes, most_lines}
 use Rattle.m11_unfold_rules.specs.Stages.{Opening, Purpose, Defines, Repeats, Drops, Stage, line_left}
-use Rattle.m11_unfold_rules.specs.Taking.{Gives, Live, Move, Passes, NothingLeft, into_body, line_taken, nesting, one_taken, opened, skipped, used}
+use Rattle.m11_unfold_rules.specs.Taking.{Gives, Live, Move, Passes, NothingLeft, into_body, line_move, nesting, one_taken, opened, skipped, used}
 use Rattle.m11_unfold_rules.specs.Unfolding as steps
 use Rattle.m11_unfold_rules.specs.Unfolding.{Leads, given}
 use Rattle.m11_unfold_rules.specs.declared.fault.UnfoldFault.{UnfoldFault}
@@ -118,7 +118,7 @@ module _ (more : List SourceLine) where
       ap (λ (ms : List Mark). Gives (record { line = line; is_expanded = has_mark ms }) (on stage)) (same_open stage.left)
 
   taken_on : (opening : Option Opening) (line : SourceLine) (stage : Stage)
-      → line_taken opening line (on stage) ≡ on_after (line_taken opening line stage)
+      → line_move opening line (on stage) ≡ on_after (line_move opening line stage)
   taken_on (Some opening) line stage =
       ap Passes (into_on opening.purpose opening.taken line.text (depth_after (nesting line.text) opening.taken.depth) stage)
   taken_on None line stage = live_on (skipped stage.conditions line.text) line stage

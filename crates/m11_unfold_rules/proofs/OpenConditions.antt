@@ -15,7 +15,7 @@ use Rattle.m11_unfold_bodies.specs.Left.{RemainingItem, Line, conditions_in, con
 use Rattle.m11_unfold_bodies.specs.declared.mark.Mark.{Mark}
 use Rattle.m11_unfold_rules.specs.Acting.{Acted, OwnDirective, act, act_fault, acted_by, condition_opened, flagged, flag_O, operation, own}
 use Rattle.m11_unfold_rules.specs.Constructs.{Block, HasConditionLeft, after_block, before_block, condition_remarks}
-use Rattle.m11_unfold_rules.specs.Laws.{AreForeign, IsDirective, IsLive, foreign_given, own_given}
+use Rattle.m11_unfold_rules.specs.Laws.{AreForeign, IsDirective, IsLive, foreign_live_line, own_live_line}
 use Rattle.m11_unfold_rules.specs.Limits.{most_lines}
 use Rattle.m11_unfold_rules.specs.Stages.{Macro, Stage, line_left}
 use Rattle.m11_unfold_rules.specs.Taking.{Gives, Live, Passes, move, skipped_by}
@@ -66,7 +66,7 @@ module _ (known : KnownSymbols) (conditions : OpenConditions) (macros : List (Na
   opens_condition : (taken column : ℕ) (line : SourceLine) (left : List RemainingItem) (holds : Bool) → is_skipping conditions ≡ false
       → operation conditions macros line.text ≡ OwnDirective word.If column → (condition known line.text column).holds ≡ holds
       → length conditions.entered + conditions_open left < most_conditions → taken + 1 ≤ most_lines
-      → Leads (at conditions taken (Line line ∷ left)) (own_given known left line (condition_remarks known line.text column) ∷ [])
+      → Leads (at conditions taken (Line line ∷ left)) (own_live_line known left line (condition_remarks known line.text column) ∷ [])
       (at (entering holds conditions) (taken + 1) left)
   opens_condition taken column line left holds live is answers room most =
       let here : Stage = at conditions (taken + 1) left in
@@ -86,7 +86,7 @@ module _ (known : KnownSymbols) (conditions : OpenConditions) (macros : List (Na
       → move (at (entering holds conditions) taken (Line line ∷ left))
       ≡ Gives (record { line = line; is_expanded = is_expanding left }) (at (entering holds conditions) (taken + 1) left)
       → taken + 1 ≤ most_lines
-      → Leads (at (entering holds conditions) taken (Line line ∷ left)) (own_given known left line (flagged 0 line.text column) ∷ [])
+      → Leads (at (entering holds conditions) taken (Line line ∷ left)) (own_live_line known left line (flagged 0 line.text column) ∷ [])
       (at conditions (taken + 1) left)
   closes_condition taken column line left holds none is gives most =
       let c : OpenConditions = entering holds conditions in
@@ -154,10 +154,10 @@ module _ (known : KnownSymbols) (stage : Stage) (block : Block) (column end : �
   all = map line_left block.lines ++ rest
 
   abbrev head_given : UnfoldedLine
-  head_given = own_given known block.left block.first (condition_remarks known block.first.text column)
+  head_given = own_live_line known block.left block.first (condition_remarks known block.first.text column)
 
   abbrev close_given : UnfoldedLine
-  close_given = own_given known block.left block.close (flagged 0 block.close.text end)
+  close_given = own_live_line known block.left block.close (flagged 0 block.close.text end)
 
   begins : (holds : Bool) → IsLive stage → IsDirective stage block.first word.If column
       → (condition known block.first.text column).holds ≡ holds → HasConditionLeft stage block → stage.taken + 1 ≤ most_lines
@@ -183,7 +183,7 @@ module _ (known : KnownSymbols) (stage : Stage) (block : Block) (column end : �
   pub condition_holds : IsLive stage → IsDirective stage block.first word.If column → (condition known block.first.text column).holds ≡ true
       → HasConditionLeft stage block → AreForeign stage block.lines → IsDirective stage block.close word.Endc end
       → stage.taken + (length block.lines + 2) ≤ most_lines
-      → Leads (before_block stage block) (head_given ∷ map (foreign_given known block.left) block.lines ++ close_given ∷ [])
+      → Leads (before_block stage block) (head_given ∷ map (foreign_live_line known block.left) block.lines ++ close_given ∷ [])
       (after_block stage block 0)
   condition_holds live is answers room foreign closing most =
       let n : ℕ = length block.lines in
@@ -205,10 +205,10 @@ module _ (known : KnownSymbols) (stage : Stage) (block : Block) (column end : �
       (omega (arith, most)) in
       let last : ℕ → Stage = λ m. at_stage stage.conditions m block.left in
       let whole = follows before (at_stage c (stage.taken + 1 + n) rest) (last (stage.taken + 1 + n + 1))
-      (head_given ∷ map (foreign_given known block.left) block.lines) (close_given ∷ []) lines ends in
+      (head_given ∷ map (foreign_live_line known block.left) block.lines) (close_given ∷ []) lines ends in
       let sum : stage.taken + 1 + n + 1 ≡ stage.taken + (n + 2) + 0 = omega arith in
-      let Q : ℕ → Type 0 = λ m. Leads before (head_given ∷ map (foreign_given known block.left) block.lines ++ close_given ∷ []) (last m) in
-      let stood : Leads before (head_given ∷ map (foreign_given known block.left) block.lines ++ close_given ∷ [])
+      let Q : ℕ → Type 0 = λ m. Leads before (head_given ∷ map (foreign_live_line known block.left) block.lines ++ close_given ∷ []) (last m) in
+      let stood : Leads before (head_given ∷ map (foreign_live_line known block.left) block.lines ++ close_given ∷ [])
       (last (stage.taken + (n + 2) + 0)) = subst Q sum whole in
       rw (live.no_body, live.going_on) stood
 

@@ -10,7 +10,7 @@ use Rattle.m11_unfold_bodies.specs.Conditions.{OpenConditions, is_skipping}
 use Rattle.m11_unfold_bodies.specs.declared.mark.Mark.{Mark}
 use Rattle.m11_unfold_bodies.specs.Left.{RemainingItem, Line, argument_count, count_in, has_mark, is_expanding, marks}
 use Rattle.m11_unfold_rules.specs.Acting.{Acted, Foreign, act, act_fault, acted_by, operation}
-use Rattle.m11_unfold_rules.specs.Laws.{AreForeign, IsLive, after_lines, before_lines, foreign_given}
+use Rattle.m11_unfold_rules.specs.Laws.{AreForeign, IsLive, after_lines, before_lines, foreign_live_line}
 use Rattle.m11_unfold_rules.specs.Limits.{most_lines, next_fault}
 use Rattle.m11_unfold_rules.specs.Stages.{Macro, Stage, line_left}
 use Rattle.m11_unfold_rules.specs.Taking.{Gives, Live, move}
@@ -58,7 +58,7 @@ becomes_live conditions macros bytes created taken line left live = rw live refl
 given_alike : (known : KnownSymbols) (left : List RemainingItem) (lines : List SourceLine) (line : SourceLine) (here : Stage)
     → here.left ≡ map line_left lines ++ left
     → act known here line.text ≡ record { is_own = false; remarks = no_remarks; after = here }
-    → given known (record { line = line; is_expanded = is_expanding here.left }) here ≡ foreign_given known left line
+    → given known (record { line = line; is_expanded = is_expanding here.left }) here ≡ foreign_live_line known left line
 given_alike known left lines line here stands acts =
     let told : Acted → UnfoldedLine = λ acted. record {
       live = record { line = line; is_expanded = is_expanding here.left };
@@ -81,7 +81,7 @@ pub onwards : (before : Stage) (known : KnownSymbols) (conditions : OpenConditio
     (left : List RemainingItem) → is_skipping conditions ≡ false → (lines : List SourceLine) (taken : ℕ) (done : List UnfoldedLine)
     → ForeignHere conditions macros lines → taken + length lines ≤ most_lines
     → Leads before done (stage_at conditions macros bytes created taken (map line_left lines ++ left))
-    → Leads before (done ++ map (foreign_given known left) lines)
+    → Leads before (done ++ map (foreign_live_line known left) lines)
     (stage_at conditions macros bytes created (taken + length lines) left)
 onwards before known conditions macros bytes created left live [] taken done foreign most so_far =
     let P : List UnfoldedLine → Type 0 = λ all. Leads before all (stage_at conditions macros bytes created taken left) in
@@ -98,17 +98,17 @@ onwards before known conditions macros bytes created left live (line ∷ lines) 
     let next = steps.Leads.Giving done (stage_at conditions macros bytes created taken (Line line ∷ rest)) here shown known so_far
     (no_fault conditions macros bytes created taken (length lines) line rest most)
     (becomes_live conditions macros bytes created taken line rest live) faults in
-    let same : given known shown here ≡ foreign_given known left line = given_alike known left lines line here refl acts in
+    let same : given known shown here ≡ foreign_live_line known left line = given_alike known left lines line here refl acts in
     let Q : Acted → Type 0 = λ acted. Leads before (done ++ given known shown here ∷ []) acted.after in
     let stands = subst Q acts next in
     let R : UnfoldedLine → Type 0 = λ one. Leads before (done ++ one ∷ []) here in
     let stood = subst R same stands in
     let later = onwards before known conditions macros bytes created left live lines (taken + 1)
-    (done ++ foreign_given known left line ∷ []) foreign.1 (omega (arith, most)) stood in
+    (done ++ foreign_live_line known left line ∷ []) foreign.1 (omega (arith, most)) stood in
     let S : List UnfoldedLine → Type 0 = λ all. Leads before all
     (stage_at conditions macros bytes created (taken + 1 + length lines) left) in
-    let joined = subst S (append_assoc done (foreign_given known left line ∷ []) (map (foreign_given known left) lines)) later in
-    let T : ℕ → Type 0 = λ n. Leads before (done ++ map (foreign_given known left) (line ∷ lines))
+    let joined = subst S (append_assoc done (foreign_live_line known left line ∷ []) (map (foreign_live_line known left) lines)) later in
+    let T : ℕ → Type 0 = λ n. Leads before (done ++ map (foreign_live_line known left) (line ∷ lines))
     (stage_at conditions macros bytes created n left) in
     let sum : taken + 1 + length lines ≡ taken + suc (length lines) = omega arith in
     subst T sum joined
@@ -120,7 +120,7 @@ looked_up stage (line ∷ lines) foreign = (foreign.0, looked_up stage lines for
 -- the law, at a stage where nothing is skipped and no body is open
 pub lines_live : (known : KnownSymbols) (stage : Stage) (lines : List SourceLine) (left : List RemainingItem) → IsLive stage → AreForeign stage lines
     → stage.taken + length lines ≤ most_lines
-    → Leads (before_lines stage lines left) (map (foreign_given known left) lines) (after_lines stage lines left)
+    → Leads (before_lines stage lines left) (map (foreign_live_line known left) lines) (after_lines stage lines left)
 lines_live known stage lines left live foreign most =
     let here : before_lines stage lines left ≡ stage_at stage.conditions stage.macros stage.defined_bytes stage.created stage.taken
     (map line_left lines ++ left) = rw (live.no_body, live.going_on) refl in
@@ -128,6 +128,6 @@ lines_live known stage lines left live foreign most =
     (stage.taken + length lines) left = rw (live.no_body, live.going_on) refl in
     let begun : Leads (before_lines stage lines left) [] (before_lines stage lines left) = steps.Leads.Stays in
     let P : Stage → Type 0 = λ s. Leads (before_lines stage lines left) [] s in
-    let Q : Stage → Type 0 = λ s. Leads (before_lines stage lines left) (map (foreign_given known left) lines) s in
+    let Q : Stage → Type 0 = λ s. Leads (before_lines stage lines left) (map (foreign_live_line known left) lines) s in
     subst Q (sym there) (onwards (before_lines stage lines left) known stage.conditions stage.macros stage.defined_bytes stage.created
     left live.taking lines stage.taken [] (looked_up stage lines foreign) most (subst P here begun))

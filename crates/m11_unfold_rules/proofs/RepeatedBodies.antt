@@ -18,8 +18,8 @@ use Rattle.m11_unfold_bodies.specs.declared.mark.Mark.{Mark}
 use Rattle.m11_unfold_bodies.specs.declared.open_body.Nesting.{Nesting}
 use Rattle.m11_unfold_bodies.specs.declared.open_body.Nesting.TheVariants.{Closes, Neither}
 use Rattle.m11_unfold_rules.specs.Acting.{Acted, act, act_fault, acted_by, acted_repeated, opens, own, repeating}
-use Rattle.m11_unfold_rules.specs.Constructs.{Block, HasRoom, IsPlainBody, after_block, before_block, expanded_given, lines_of_rounds, repeated_lines, times}
-use Rattle.m11_unfold_rules.specs.Laws.{AreForeign, IsDirective, IsLive, foreign_given, own_given}
+use Rattle.m11_unfold_rules.specs.Constructs.{Block, HasRoom, IsPlainBody, after_block, before_block, expanded_live_line, lines_of_rounds, repeated_lines, times}
+use Rattle.m11_unfold_rules.specs.Laws.{AreForeign, IsDirective, IsLive, foreign_live_line, own_live_line}
 use Rattle.m11_unfold_rules.specs.Limits.{body_fault, fault_if, most_bytes, most_lines, next_fault}
 use Rattle.m11_unfold_rules.specs.Stages.{Macro, Purpose, Repeats, Stage, line_left}
 use Rattle.m11_unfold_rules.specs.Taking.{Passes, into_body, move, nesting, one_taken}
@@ -137,7 +137,7 @@ module _ (known : KnownSymbols) (stage : Stage) (block : Block) (formals : List 
       → act known first_taken block.first.text ≡ own remarks (opens (Repeats formals rounds) first_taken)
       → act_fault first_taken block.first.text ≡ None
       → Leads (before_block stage block)
-      (own_given known block.left block.first remarks ∷ map (expanded_given known (argument_count block.left)) gives)
+      (own_live_line known block.left block.first remarks ∷ map (expanded_live_line known (argument_count block.left)) gives)
       (after_block stage block (length gives))
   repeats_run remarks live plain is foreign room acts faults =
       let body : List Bytes = texts_of block.lines in
@@ -157,12 +157,12 @@ module _ (known : KnownSymbols) (stage : Stage) (block : Block) (formals : List 
         arguments = count_in m;
       } in
       let P : List Mark → Type 0 = λ m. Leads before (told m ∷ []) done.after in
-      let begun : Leads before (own_given known block.left block.first remarks ∷ []) done.after
+      let begun : Leads before (own_live_line known block.left block.first remarks ∷ []) done.after
       = subst P (same_marks block.lines rest) first in
       let bytes_left = room.bytes in
       let bytes_in_all : stage.defined_bytes + bytes_held rest + (size_of [] + size_of body) ≤ most_bytes = omega (arith, bytes_left) in
       let taken_in = body_taken stage.conditions stage.macros stage.defined_bytes stage.created (Repeats formals rounds) before
-      (own_given known block.left block.first remarks ∷ []) rest block.lines (stage.taken + 1) 1 [] plain (omega (arith, lines_left))
+      (own_live_line known block.left block.first remarks ∷ []) rest block.lines (stage.taken + 1) 1 [] plain (omega (arith, lines_left))
       bytes_in_all begun in
       let closed = closes stage.conditions stage.macros stage.defined_bytes stage.created formals rounds (stage.taken + 1 + count) 0 body
       block.close block.left is (omega (arith, lines_left)) room.expansions in
@@ -175,13 +175,13 @@ module _ (known : KnownSymbols) (stage : Stage) (block : Block) (formals : List 
       (map line_left gives ++ End mark ∷ block.left) in
       let last : ℕ → Stage = λ n. stage_at stage.conditions stage.macros stage.defined_bytes stage.created n block.left in
       let joined = follows before (body_stage stage.conditions stage.macros stage.defined_bytes stage.created (Repeats formals rounds)
-      (stage.taken + 1 + count) body rest) opened_in (own_given known block.left block.first remarks ∷ []) [] taken_in closed in
+      (stage.taken + 1 + count) body rest) opened_in (own_live_line known block.left block.first remarks ∷ []) [] taken_in closed in
       let whole = follows before opened_in (last (stage.taken + 1 + count + 1 + length gives))
-      (own_given known block.left block.first remarks ∷ []) (map (foreign_given known (End mark ∷ block.left)) gives) joined rounds_live in
+      (own_live_line known block.left block.first remarks ∷ []) (map (foreign_live_line known (End mark ∷ block.left)) gives) joined rounds_live in
       let sum : stage.taken + 1 + count + 1 + length gives ≡ stage.taken + (count + 2) + length gives = omega arith in
       let Q : ℕ → Type 0 = λ n. Leads before
-      (own_given known block.left block.first remarks ∷ map (expanded_given known (argument_count block.left)) gives) (last n) in
-      let stood : Leads before (own_given known block.left block.first remarks ∷ map (expanded_given known (argument_count block.left)) gives)
+      (own_live_line known block.left block.first remarks ∷ map (expanded_live_line known (argument_count block.left)) gives) (last n) in
+      let stood : Leads before (own_live_line known block.left block.first remarks ∷ map (expanded_live_line known (argument_count block.left)) gives)
       (last (stage.taken + (count + 2) + length gives)) = subst Q sum whole in
       rw (live.no_body, live.going_on) stood
 
@@ -192,8 +192,8 @@ pub repeated : (known : KnownSymbols) (stage : Stage) (block : Block) (column : 
     → AreForeign stage (times (repeats.rept_count known block.first.text column) (map line_of (texts_of block.lines)))
     → HasRoom stage block (texts_of block.lines)
     (times (repeats.rept_count known block.first.text column) (map line_of (texts_of block.lines)))
-    → Leads (before_block stage block) (own_given known block.left block.first (repeats.remarks known block.first.text column)
-    ∷ map (expanded_given known (argument_count block.left))
+    → Leads (before_block stage block) (own_live_line known block.left block.first (repeats.remarks known block.first.text column)
+    ∷ map (expanded_live_line known (argument_count block.left))
     (times (repeats.rept_count known block.first.text column) (map line_of (texts_of block.lines))))
     (after_block stage block (length (times (repeats.rept_count known block.first.text column) (map line_of (texts_of block.lines)))))
 repeated known stage block column live is plain closing foreign room =
@@ -204,7 +204,7 @@ repeated known stage block column live is plain closing foreign room =
     let same : lines_of_rounds [] rounds body ≡ times n (map line_of body) = plain_rounds n body in
     let P : List SourceLine → Type 0 = λ ls. AreForeign stage ls → HasRoom stage block body ls
     → Leads (before_block stage block)
-    (own_given known block.left block.first remarks ∷ map (expanded_given known (argument_count block.left)) ls)
+    (own_live_line known block.left block.first remarks ∷ map (expanded_live_line known (argument_count block.left)) ls)
     (after_block stage block (length ls)) in
     let here : Stage = first_taken known stage block [] rounds in
     let acts : act known here block.first.text ≡ own remarks (opens (Repeats [] rounds) here) = ap (acted_by known block.first.text here) is in
@@ -221,8 +221,8 @@ module _ (known : KnownSymbols) (stage : Stage) (block : Block) (column : ℕ) (
       → AreForeign stage (repeated_lines rounds (texts_of block.lines))
       → HasRoom stage block (texts_of block.lines) (repeated_lines rounds (texts_of block.lines))
       → act known here block.first.text ≡ acted_repeated arguments here → act_fault here block.first.text ≡ None
-      → Leads (before_block stage block) (own_given known block.left block.first arguments.remarks
-      ∷ map (expanded_given known (argument_count block.left)) (repeated_lines rounds (texts_of block.lines)))
+      → Leads (before_block stage block) (own_live_line known block.left block.first arguments.remarks
+      ∷ map (expanded_live_line known (argument_count block.left)) (repeated_lines rounds (texts_of block.lines)))
       (after_block stage block (length (repeated_lines rounds (texts_of block.lines))))
   indefinitely arguments some live plain closing foreign room acts faults =
       let acts' : act known here block.first.text ≡ own arguments.remarks (opens (Repeats (rounds.formal ∷ []) (map (λ text. text ∷ []) rounds.texts)) here)
@@ -234,8 +234,8 @@ module _ (known : KnownSymbols) (stage : Stage) (block : Block) (column : ℕ) (
       → IsPlainBody (texts_of block.lines) → nesting block.close.text ≡ Closes
       → AreForeign stage (repeated_lines rounds (texts_of block.lines))
       → HasRoom stage block (texts_of block.lines) (repeated_lines rounds (texts_of block.lines))
-      → Leads (before_block stage block) (own_given known block.left block.first (irp known block.first.text column).remarks
-      ∷ map (expanded_given known (argument_count block.left)) (repeated_lines rounds (texts_of block.lines)))
+      → Leads (before_block stage block) (own_live_line known block.left block.first (irp known block.first.text column).remarks
+      ∷ map (expanded_live_line known (argument_count block.left)) (repeated_lines rounds (texts_of block.lines)))
       (after_block stage block (length (repeated_lines rounds (texts_of block.lines))))
   with_list is some live plain closing foreign room =
       indefinitely (irp known block.first.text column) some live plain closing foreign room
@@ -246,8 +246,8 @@ module _ (known : KnownSymbols) (stage : Stage) (block : Block) (column : ℕ) (
       → IsPlainBody (texts_of block.lines) → nesting block.close.text ≡ Closes
       → AreForeign stage (repeated_lines rounds (texts_of block.lines))
       → HasRoom stage block (texts_of block.lines) (repeated_lines rounds (texts_of block.lines))
-      → Leads (before_block stage block) (own_given known block.left block.first (irpc block.first.text column).remarks
-      ∷ map (expanded_given known (argument_count block.left)) (repeated_lines rounds (texts_of block.lines)))
+      → Leads (before_block stage block) (own_live_line known block.left block.first (irpc block.first.text column).remarks
+      ∷ map (expanded_live_line known (argument_count block.left)) (repeated_lines rounds (texts_of block.lines)))
       (after_block stage block (length (repeated_lines rounds (texts_of block.lines))))
   with_characters is some live plain closing foreign room =
       indefinitely (irpc block.first.text column) some live plain closing foreign room

@@ -20,8 +20,8 @@ pub record ActualTexts : Type 0 where
   pub texts : List Bytes
   pub remarks : Remarks
 
-abbrev pub nothing_given : ActualTexts
-nothing_given = record { texts = []; remarks = no_remarks }
+abbrev pub no_actual_texts : ActualTexts
+no_actual_texts = record { texts = []; remarks = no_remarks }
 
 -- texts followed by others, with the flags and symbols of both
 abbrev pub followed_by : ActualTexts → ActualTexts → ActualTexts
@@ -48,7 +48,7 @@ abbrev pub actuals_from : KnownSymbols → Bytes → ℕ → ℕ → ActualTexts
 actuals_from known line zero column =
     record { texts = []; remarks = remarks_of (flag_if (is_some (next_actual line column true)) flag_Q) [] }
 actuals_from known line (suc wanted) column = elim (next_actual line column true) [
-  | None ↦ nothing_given
+  | None ↦ no_actual_texts
   | Some actual ↦ followed_by (given_by known line actual)
       (actuals_from known line wanted (separator_at line actual.end).end)
 ]

@@ -69,8 +69,8 @@ pub record HasRoom (stage : Stage) (block : Block) (body : List Bytes) (gives : 
   pub expansions : depth block.left < most_expansions
 
 -- a live line that comes from an expansion and doesn't belong to unfolding
-abbrev pub expanded_given : KnownSymbols → Option ℕ → SourceLine → UnfoldedLine
-expanded_given known arguments line = record {
+abbrev pub expanded_live_line : KnownSymbols → Option ℕ → SourceLine → UnfoldedLine
+expanded_live_line known arguments line = record {
   live = record { line = line; is_expanded = true };
   known = known;
   is_own = false;

@@ -28,7 +28,7 @@ is_as wanted found = if wanted then found else not found
 
 -- whether a symbol is defined, or undefined for NDF
 abbrev pub tested : KnownSymbols → Bool → Symbol → Bool
-tested known wants_defined symbol = is_as wants_defined (is_defined (known.stands_for symbol))
+tested known wants_defined symbol = is_as wants_defined (is_defined (known.value_of_symbol symbol))
 
 abbrev pub verdict_of : KnownSymbols → Bool → Option Symbol → Option Bool
 verdict_of known wants_defined (Some symbol) = Some (tested known wants_defined symbol)

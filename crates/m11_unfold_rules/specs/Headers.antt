@@ -96,14 +96,14 @@ header line column = elim (name_at (tokens_from line column)) [
 ]
 
 -- the header that the code's value represents
-abbrev pub named_seen : Header → MacroNamed
-named_seen header = record { name = header.name; formals = header.formals.items }
+abbrev pub macro_of_header : Header → MacroNamed
+macro_of_header header = record { name = header.name; formals = header.formals.items }
 
-abbrev pub header_seen : Option Header → Option MacroNamed
-header_seen (Some header) = Some (named_seen header)
-header_seen None = None
+abbrev pub header_model : Option Header → Option MacroNamed
+header_model (Some header) = Some (macro_of_header header)
+header_model None = None
 
 -- the list item that the code's value represents
-abbrev pub listed_seen : FormalOrEnd → NextListed
-listed_seen (Last flags) = Ending (bits_of flags)
-listed_seen (More found) = Formally found.formal (bits_of found.flags) found.end
+abbrev pub listed_model : FormalOrEnd → NextListed
+listed_model (Last flags) = Ending (bits_of flags)
+listed_model (More found) = Formally found.formal (bits_of found.flags) found.end

@@ -45,9 +45,9 @@ spelled line actual =
 -- the formal at or after a column, and the argument after it; none unless the first token there is a name other than `.`, which is
 -- the formal, and an argument follows. Blanks, a comma or both may separate the two
 abbrev pub begun_at : Bytes → ℕ → Bool → Option RepeatHeader
-begun_at line column gives_digits = elim (name_at (tokens_from line column)) [
+begun_at line column allows_digits = elim (name_at (tokens_from line column)) [
   | None ↦ None
-  | Some name ↦ elim (next_actual line (separator_at line name.end).end gives_digits) [
+  | Some name ↦ elim (next_actual line (separator_at line name.end).end allows_digits) [
     | None ↦ None
     | Some list ↦ Some (record { formal = name.name; list = list })
   ]
@@ -77,6 +77,6 @@ irpc line column = repeated line column (λ list. spelled line list) (begun_at l
 abbrev pub repetition : Rounds → Repetition
 repetition rounds = record { formal = rounds.formal; texts = texts_of rounds.texts.items }
 
-abbrev pub rounds_seen : Option Rounds → Option Repetition
-rounds_seen (Some rounds) = Some (repetition rounds)
-rounds_seen None = None
+abbrev pub rounds_model : Option Rounds → Option Repetition
+rounds_model (Some rounds) = Some (repetition rounds)
+rounds_model None = None

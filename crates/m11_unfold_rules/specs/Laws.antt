@@ -24,8 +24,8 @@ AreForeign stage [] = ⊤
 AreForeign stage (line ∷ lines) = (operation stage.conditions stage.macros line.text ≡ Foreign) × AreForeign stage lines
 
 -- a live line that doesn't belong to unfolding; `left` is what is left to unfold after it
-abbrev pub foreign_given : KnownSymbols → List RemainingItem → SourceLine → UnfoldedLine
-foreign_given known left line = record {
+abbrev pub foreign_live_line : KnownSymbols → List RemainingItem → SourceLine → UnfoldedLine
+foreign_live_line known left line = record {
   live = record { line = line; is_expanded = is_expanding left };
   known = known;
   is_own = false;
@@ -46,8 +46,8 @@ abbrev pub IsDirective : Stage → SourceLine → Directive → ℕ → Type 0
 IsDirective stage line directive column = operation stage.conditions stage.macros line.text ≡ OwnDirective directive column
 
 -- a live line that belongs to unfolding; `left` is what is left to unfold after it
-abbrev pub own_given : KnownSymbols → List RemainingItem → SourceLine → Remarks → UnfoldedLine
-own_given known left line remarks = record {
+abbrev pub own_live_line : KnownSymbols → List RemainingItem → SourceLine → Remarks → UnfoldedLine
+own_live_line known left line remarks = record {
   live = record { line = line; is_expanded = is_expanding left };
   known = known;
   is_own = true;
@@ -63,5 +63,5 @@ before_exit stage line rest mark left = record stage { left = Line line ∷ map 
 abbrev pub after_exit : Stage → Mark → List RemainingItem → Stage
 after_exit stage mark left = record stage { left = left; conditions = mark.conditions; taken = stage.taken + 1 }
 
-abbrev pub exit_given : KnownSymbols → Mark → List RemainingItem → SourceLine → Remarks → UnfoldedLine
-exit_given known mark left line remarks = own_given known (End mark ∷ left) line remarks
+abbrev pub exit_live_line : KnownSymbols → Mark → List RemainingItem → SourceLine → Remarks → UnfoldedLine
+exit_live_line known mark left line remarks = own_live_line known (End mark ∷ left) line remarks

@@ -8,7 +8,7 @@ use Rattle.m11_scan.specs.Line.{SourceLine}
 use Rattle.m11_unfold_rules.specs.Directives.{directive}
 use Rattle.m11_unfold_rules.specs.declared.directives.Directive.{Directive}
 use Rattle.m11_unfold_rules.specs.declared.directives.Directive.TheVariants as word
-use Rattle.m11_unfold_bodies.specs.Bodies.{PartialBody, depth_after, size_of, taken_with}
+use Rattle.m11_unfold_bodies.specs.Bodies.{PartialBody, depth_after, size_of, partial_body_with}
 use Rattle.m11_unfold_bodies.specs.Conditions.{OpenConditions, is_skipping, nested, no_conditions, unnested}
 use Rattle.m11_unfold_bodies.specs.Left.{RemainingItem, Line, End, expanded, is_expanding}
 use Rattle.m11_unfold_bodies.specs.declared.mark.Mark.{Mark}
@@ -54,7 +54,7 @@ used Drops body stage = stage
 abbrev pub into_body : Purpose → PartialBody → Bytes → Option ℕ → Stage → Stage
 into_body purpose taken text None stage = used purpose taken.body (record stage { opening = None })
 into_body purpose taken text (Some depth) stage =
-    record stage { opening = Some (record { purpose = purpose; taken = taken_with taken text depth }) }
+    record stage { opening = Some (record { purpose = purpose; taken = partial_body_with taken text depth }) }
 
 -- ---- skipped lines
 
@@ -101,10 +101,10 @@ abbrev pub ended : Mark → List RemainingItem → Stage → Stage
 ended mark left stage = record stage { left = left; conditions = mark.conditions; opening = None }
 
 -- the move that reads a line: if a body is open, the line is added to it or closes it; otherwise the line is skipped or becomes live
-abbrev pub line_taken : Option Opening → SourceLine → Stage → Move
-line_taken (Some opening) line stage = Passes
+abbrev pub line_move : Option Opening → SourceLine → Stage → Move
+line_move (Some opening) line stage = Passes
     (into_body opening.purpose opening.taken line.text (depth_after (nesting line.text) opening.taken.depth) stage)
-line_taken None line stage = elim (skipped stage.conditions line.text) [
+line_move None line stage = elim (skipped stage.conditions line.text) [
   | Some conditions ↦ Passes (record stage { conditions = conditions })
   | None ↦ Gives (record { line = line; is_expanded = is_expanding stage.left }) stage
 ]
@@ -116,5 +116,5 @@ move stage =
     else elim stage.left [
       | [] ↦ NothingLeft
       | End mark ∷ left ↦ Passes (ended mark left stage)
-      | Line line ∷ left ↦ line_taken stage.opening line (one_taken left stage)
+      | Line line ∷ left ↦ line_move stage.opening line (one_taken left stage)
     ]

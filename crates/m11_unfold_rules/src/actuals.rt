@@ -29,9 +29,9 @@ pub fn actuals_from<N: Names>(
     remarks: &mut Remarks,
 ) -> Result<Vec<Vec<u8>>, AllocError>
     ensures texts { IfOk result (λ texts. texts_of texts.items ≡ (spec.actuals_from
-        (known_by (N.base names.now) (N.stands_for names.now)) line.now.text wanted column).texts) }
+        (known_by (N.base names.now) (N.value_of_symbol names.now)) line.now.text wanted column).texts) }
     ensures remarks { IfOk result (λ _. remarks.new ≡ joined remarks.old (spec.actuals_from
-        (known_by (N.base names.now) (N.stands_for names.now)) line.now.text wanted column).remarks) }
+        (known_by (N.base names.now) (N.value_of_symbol names.now)) line.now.text wanted column).remarks) }
 {
     let mut texts = Vec::new(alloc);
     let mut begin = column;
@@ -68,9 +68,9 @@ pub(crate) fn text_of<N: Names>(
     remarks: &mut Remarks,
 ) -> Result<Vec<u8>, AllocError>
     ensures text { IfOk result (λ text. text.items ∷ [] ≡ (spec.given_by
-        (known_by (N.base names.now) (N.stands_for names.now)) line.now.text actual.now).texts) }
+        (known_by (N.base names.now) (N.value_of_symbol names.now)) line.now.text actual.now).texts) }
     ensures remarks { IfOk result (λ _. remarks.new ≡ joined remarks.old (spec.given_by
-        (known_by (N.base names.now) (N.stands_for names.now)) line.now.text actual.now).remarks) }
+        (known_by (N.base names.now) (N.value_of_symbol names.now)) line.now.text actual.now).remarks) }
 {
     match actual.kind {
         ActualKind::Bare | ActualKind::Bracketed => characters(alloc, line, actual, remarks),
@@ -103,9 +103,9 @@ fn numeral<N: Names>(
     remarks: &mut Remarks,
 ) -> Result<Vec<u8>, AllocError>
     ensures text { IfOk result (λ text. text.items ∷ [] ≡ (spec.numeral
-        (known_by (N.base names.now) (N.stands_for names.now)) line.now.text column).texts) }
+        (known_by (N.base names.now) (N.value_of_symbol names.now)) line.now.text column).texts) }
     ensures remarks { IfOk result (λ _. remarks.new ≡ joined remarks.old (spec.numeral
-        (known_by (N.base names.now) (N.stands_for names.now)) line.now.text column).remarks) }
+        (known_by (N.base names.now) (N.value_of_symbol names.now)) line.now.text column).remarks) }
 {
     let number = number_at(line, column, names, remarks)?;
     remarks.add_flags(number.flags);

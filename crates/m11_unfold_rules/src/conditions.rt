@@ -50,9 +50,9 @@ pub fn condition<N: Names>(
     remarks: &mut Remarks,
 ) -> Result<Verdict, AllocError>
     ensures verdict { IfOk result (λ verdict. verdict ≡ verdict_of
-        (spec.condition (known_by (N.base names.now) (N.stands_for names.now)) line.now.text column)) }
+        (spec.condition (known_by (N.base names.now) (N.value_of_symbol names.now)) line.now.text column)) }
     ensures remarks { IfOk result (λ _. remarks.new ≡ joined remarks.old (remarks_in
-        (spec.condition (known_by (N.base names.now) (N.stands_for names.now)) line.now.text column))) }
+        (spec.condition (known_by (N.base names.now) (N.value_of_symbol names.now)) line.now.text column))) }
 {
     let finding = named_at(line, column, names, remarks)?;
     remarks.add_flags(finding.flags);
@@ -71,9 +71,9 @@ fn named_at<N: Names>(
     remarks: &mut Remarks,
 ) -> Result<Finding, AllocError>
     ensures found { IfOk result (λ finding. IsFound finding (spec.condition
-        (known_by (N.base names.now) (N.stands_for names.now)) line.now.text column)) }
+        (known_by (N.base names.now) (N.value_of_symbol names.now)) line.now.text column)) }
     ensures remarks { IfOk result (λ _. remarks.new ≡ with_symbols remarks.old (spec.condition
-        (known_by (N.base names.now) (N.stands_for names.now)) line.now.text column).symbols) }
+        (known_by (N.base names.now) (N.value_of_symbol names.now)) line.now.text column).symbols) }
 {
     match next_token(line, column) {
         Some(name) => {
@@ -103,9 +103,9 @@ fn asked_by<N: Names>(
     remarks: &mut Remarks,
 ) -> Result<Finding, AllocError>
     ensures found { IfOk result (λ finding. IsFound finding (spec.asked_at
-        (known_by (N.base names.now) (N.stands_for names.now)) line.now.text (lexeme line.now.text name))) }
+        (known_by (N.base names.now) (N.value_of_symbol names.now)) line.now.text (lexeme line.now.text name))) }
     ensures remarks { IfOk result (λ _. remarks.new ≡ with_symbols remarks.old (spec.asked_at
-        (known_by (N.base names.now) (N.stands_for names.now)) line.now.text (lexeme line.now.text name)).symbols) }
+        (known_by (N.base names.now) (N.value_of_symbol names.now)) line.now.text (lexeme line.now.text name)).symbols) }
 {
     let begin = separator_at(line, name.end).end;
     match condition_of(name.sort, name.text(line)) {
@@ -134,9 +134,9 @@ fn asked<N: Names>(
     remarks: &mut Remarks,
 ) -> Result<Finding, AllocError>
     ensures found { IfOk result (λ finding. IsFound finding (spec.asked
-        (known_by (N.base names.now) (N.stands_for names.now)) line.now.text column condition)) }
+        (known_by (N.base names.now) (N.value_of_symbol names.now)) line.now.text column condition)) }
     ensures remarks { IfOk result (λ _. remarks.new ≡ with_symbols remarks.old (spec.asked
-        (known_by (N.base names.now) (N.stands_for names.now)) line.now.text column condition).symbols) }
+        (known_by (N.base names.now) (N.value_of_symbol names.now)) line.now.text column condition).symbols) }
 {
     match condition {
         Condition::Defined => defined(line, column, true, names, remarks),
@@ -171,9 +171,9 @@ fn numeric<N: Names>(
     remarks: &mut Remarks,
 ) -> Result<Finding, AllocError>
     ensures found { IfOk result (λ finding. IsFound finding (spec.numeric
-        (known_by (N.base names.now) (N.stands_for names.now)) line.now.text column condition)) }
+        (known_by (N.base names.now) (N.value_of_symbol names.now)) line.now.text column condition)) }
     ensures remarks { IfOk result (λ _. remarks.new ≡ with_symbols remarks.old (spec.numeric
-        (known_by (N.base names.now) (N.stands_for names.now)) line.now.text column condition).symbols) }
+        (known_by (N.base names.now) (N.value_of_symbol names.now)) line.now.text column condition).symbols) }
 {
     match next_token(line, column) {
         Some(token) if begins_expression(token.sort) => {
@@ -220,9 +220,9 @@ fn defined<N: Names>(
     remarks: &mut Remarks,
 ) -> Result<Finding, AllocError>
     ensures found { IfOk result (λ finding. IsFound finding (spec.defined
-        (known_by (N.base names.now) (N.stands_for names.now)) line.now.text column wants_defined)) }
+        (known_by (N.base names.now) (N.value_of_symbol names.now)) line.now.text column wants_defined)) }
     ensures remarks { IfOk result (λ _. remarks.new ≡ with_symbols remarks.old (spec.defined
-        (known_by (N.base names.now) (N.stands_for names.now)) line.now.text column wants_defined).symbols) }
+        (known_by (N.base names.now) (N.value_of_symbol names.now)) line.now.text column wants_defined).symbols) }
 {
     let tested = names_at(line, column, wants_defined, names, remarks)?;
     let skipped = skip_flags(line, column, tested.end);

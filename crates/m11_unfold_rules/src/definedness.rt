@@ -55,11 +55,11 @@ pub(crate) fn names_at<N: Names>(
     remarks: &mut Remarks,
 ) -> Result<NamesVerdict, AllocError>
     ensures verdict { IfOk result (λ tested. tested.verdict ≡ (spec.names_at
-        (known_by (N.base names.now) (N.stands_for names.now)) wants_defined line.now.text column).verdict) }
+        (known_by (N.base names.now) (N.value_of_symbol names.now)) wants_defined line.now.text column).verdict) }
     ensures end { IfOk result (λ tested. tested.end ≡ (spec.names_at
-        (known_by (N.base names.now) (N.stands_for names.now)) wants_defined line.now.text column).end) }
+        (known_by (N.base names.now) (N.value_of_symbol names.now)) wants_defined line.now.text column).end) }
     ensures remarks { IfOk result (λ _. remarks.new ≡ with_symbols remarks.old (spec.names_at
-        (known_by (N.base names.now) (N.stands_for names.now)) wants_defined line.now.text column).symbols) }
+        (known_by (N.base names.now) (N.value_of_symbol names.now)) wants_defined line.now.text column).symbols) }
 {
     let mut before = None;
     let mut begin = column;
@@ -93,7 +93,7 @@ fn name_verdict<N: Names>(
     remarks: &mut Remarks,
 ) -> Result<Option<bool>, AllocError>
     ensures verdict { IfOk result (λ verdict. verdict ≡ spec.verdict_of
-        (known_by (N.base names.now) (N.stands_for names.now)) wants_defined
+        (known_by (N.base names.now) (N.value_of_symbol names.now)) wants_defined
         (symbol_in token.sort (text_between line.now.text token.start token.end))) }
     ensures remarks { IfOk result (λ _. remarks.new ≡ with_symbols remarks.old
         (option_to_list (symbol_in token.sort (text_between line.now.text token.start token.end)))) }
@@ -112,7 +112,7 @@ fn symbol_verdict<N: Names>(
     remarks: &mut Remarks,
 ) -> Result<bool, AllocError>
     ensures verdict { IfOk result (λ verdict. verdict
-        ≡ spec.tested (known_by (N.base names.now) (N.stands_for names.now)) wants_defined symbol.now) }
+        ≡ spec.tested (known_by (N.base names.now) (N.value_of_symbol names.now)) wants_defined symbol.now) }
     ensures remarks { IfOk result (λ _. remarks.new ≡ with_symbols remarks.old (symbol.now ∷ [])) }
 {
     remarks.add_symbol(*symbol)?;
@@ -142,7 +142,7 @@ fn symbol_of(line: &Line, token: Token) -> Option<Symbol>
 
 // Whether a symbol is defined, or undefined for NDF.
 fn tested<N: Names>(names: &N, symbol: Symbol, wants_defined: bool) -> bool
-    ensures { result ≡ spec.tested (known_by (N.base names.now) (N.stands_for names.now)) wants_defined symbol }
+    ensures { result ≡ spec.tested (known_by (N.base names.now) (N.value_of_symbol names.now)) wants_defined symbol }
 {
     is_as(wants_defined, is_defined(names.meaning(symbol)))
 }

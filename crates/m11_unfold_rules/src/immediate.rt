@@ -34,9 +34,9 @@ pub fn iif<N: Names>(
     remarks: &mut Remarks,
 ) -> Result<Immediate, AllocError>
     ensures immediate { IfOk result (λ immediate. immediate
-        ≡ spec.immediate (known_by (N.base names.now) (N.stands_for names.now)) line.now.text column) }
+        ≡ spec.immediate (known_by (N.base names.now) (N.value_of_symbol names.now)) line.now.text column) }
     ensures remarks { IfOk result (λ _. remarks.new ≡ joined remarks.old
-        (spec.remarks (known_by (N.base names.now) (N.stands_for names.now)) line.now.text column)) }
+        (spec.remarks (known_by (N.base names.now) (N.value_of_symbol names.now)) line.now.text column)) }
 {
     let verdict = condition(line, column, names, remarks)?;
     let end = verdict.end;

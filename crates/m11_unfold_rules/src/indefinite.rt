@@ -5,7 +5,7 @@ ghost use Rattle.m11_unfold_rules.specs.Actuals.{texts_of};
 ghost use Rattle.m11_unfold_rules.specs.Conditions.{text_of};
 ghost use Rattle.m11_scan_expressions.specs.Expressions.{known_by};
 ghost use Rattle.m11_unfold_rules.specs.Indefinite as spec;
-ghost use Rattle.m11_unfold_rules.specs.Indefinite.{rounds_seen};
+ghost use Rattle.m11_unfold_rules.specs.Indefinite.{rounds_model};
 ghost use Rattle.m11_scan_expressions.specs.Remarks.{joined};
 
 use crate::actuals::{actuals_from, text_of};
@@ -44,10 +44,10 @@ pub fn irp<N: Names>(
     names: &N,
     remarks: &mut Remarks,
 ) -> Result<Option<Rounds>, AllocError>
-    ensures rounds { IfOk result (λ rounds. rounds_seen rounds ≡ (spec.irp
-        (known_by (N.base names.now) (N.stands_for names.now)) line.now.text column).rounds) }
+    ensures rounds { IfOk result (λ rounds. rounds_model rounds ≡ (spec.irp
+        (known_by (N.base names.now) (N.value_of_symbol names.now)) line.now.text column).rounds) }
     ensures remarks { IfOk result (λ _. remarks.new ≡ joined remarks.old (spec.irp
-        (known_by (N.base names.now) (N.stands_for names.now)) line.now.text column).remarks) }
+        (known_by (N.base names.now) (N.value_of_symbol names.now)) line.now.text column).remarks) }
 {
     let Some(begun) = begun_at(line, column, true) else {
         remarks.add_flags(bad_flags(line, column));
@@ -71,7 +71,7 @@ pub fn irpc(
     column: u8,
     remarks: &mut Remarks,
 ) -> Result<Option<Rounds>, AllocError>
-    ensures rounds { IfOk result (λ rounds. rounds_seen rounds
+    ensures rounds { IfOk result (λ rounds. rounds_model rounds
         ≡ (spec.irpc line.now.text column).rounds) }
     ensures remarks { IfOk result (λ _. remarks.new
         ≡ joined remarks.old (spec.irpc line.now.text column).remarks) }
@@ -91,13 +91,13 @@ pub fn irpc(
 
 // The formal at or after a column, and the argument after it. None unless the next token is a name other than `.`, which is the
 // formal, and an argument follows. Blanks, a comma or both may separate the two. `\` is an ordinary character in the argument unless
-// `gives_digits` is true.
-fn begun_at(line: &Line, column: u8, gives_digits: bool) -> Option<RepeatHeader>
-    ensures { result ≡ spec.begun_at line.now.text column gives_digits }
+// `allows_digits` is true.
+fn begun_at(line: &Line, column: u8, allows_digits: bool) -> Option<RepeatHeader>
+    ensures { result ≡ spec.begun_at line.now.text column allows_digits }
 {
     let name = name_at(line, column)?;
     let begin = separator_at(line, name.end).end;
-    let list = next_actual(line, begin, gives_digits)?;
+    let list = next_actual(line, begin, allows_digits)?;
     Some(RepeatHeader {
         formal: name.name,
         list,
@@ -114,9 +114,9 @@ fn listed<N: Names>(
     remarks: &mut Remarks,
 ) -> Result<Vec<Vec<u8>>, AllocError>
     ensures texts { IfOk result (λ texts. texts_of texts.items ≡ (spec.listed
-        (known_by (N.base names.now) (N.stands_for names.now)) line.now.text list.now).texts) }
+        (known_by (N.base names.now) (N.value_of_symbol names.now)) line.now.text list.now).texts) }
     ensures remarks { IfOk result (λ _. remarks.new ≡ joined remarks.old (spec.listed
-        (known_by (N.base names.now) (N.stands_for names.now)) line.now.text list.now).remarks) }
+        (known_by (N.base names.now) (N.value_of_symbol names.now)) line.now.text list.now).remarks) }
 {
     match list.kind {
         ActualKind::Bracketed => listed_in(alloc, line, list, names, remarks),
@@ -138,9 +138,9 @@ fn listed_in<N: Names>(
     remarks: &mut Remarks,
 ) -> Result<Vec<Vec<u8>>, AllocError>
     ensures texts { IfOk result (λ texts. texts_of texts.items ≡ (spec.listed_in
-        (known_by (N.base names.now) (N.stands_for names.now)) line.now.text list.now).texts) }
+        (known_by (N.base names.now) (N.value_of_symbol names.now)) line.now.text list.now).texts) }
     ensures remarks { IfOk result (λ _. remarks.new ≡ joined remarks.old (spec.listed_in
-        (known_by (N.base names.now) (N.stands_for names.now)) line.now.text list.now).remarks) }
+        (known_by (N.base names.now) (N.value_of_symbol names.now)) line.now.text list.now).remarks) }
 {
     remarks.add_flags(actual_flags(list));
     let inner = line_of(line, list);

@@ -14,9 +14,9 @@ ghost use Rattle.m11_unfold_bodies.specs.declared.mark.Mark.{Mark};
 ghost use Rattle.m11_unfold_bodies.specs.declared.open_body.Nesting.TheVariants.{Closes};
 ghost use Rattle.m11_scan.specs.Line.{SourceLine, line_of};
 ghost use Rattle.m11_unfold_rules.specs.Acting.{act, flagged};
-ghost use Rattle.m11_unfold_rules.specs.Constructs.{Block, HasConditionLeft, HasRoom, IsCall, IsPlainBody, after_block, after_call, before_block, before_call, condition_remarks, expanded_given, repeated_lines, times};
+ghost use Rattle.m11_unfold_rules.specs.Constructs.{Block, HasConditionLeft, HasRoom, IsCall, IsPlainBody, after_block, after_call, before_block, before_call, condition_remarks, expanded_live_line, repeated_lines, times};
 ghost use Rattle.m11_unfold_rules.specs.Histories.{GoesOn, IsKnownBy, with_more};
-ghost use Rattle.m11_unfold_rules.specs.Laws.{AreForeign, IsDirective, IsLive, after_exit, after_lines, before_exit, before_lines, exit_given, foreign_given, own_given};
+ghost use Rattle.m11_unfold_rules.specs.Laws.{AreForeign, IsDirective, IsLive, after_exit, after_lines, before_exit, before_lines, exit_live_line, foreign_live_line, own_live_line};
 ghost use Rattle.m11_unfold_rules.specs.Limits.{most_lines};
 ghost use Rattle.m11_unfold_rules.specs.Stages.{Stage};
 ghost use Rattle.m11_unfold_rules.specs.Taking.{Live, NothingLeft, move, nesting};
@@ -27,7 +27,7 @@ ghost use Rattle.m11_unfold_rules.specs.Unfolding.{UnfoldedLine, Leads};
 pub fn other_lines_become_live()
     ensures { (known : KnownSymbols) (stage : Stage) (lines : List SourceLine) (left : List RemainingItem) → IsLive stage
         → AreForeign stage lines → stage.taken + length lines ≤ most_lines
-        → Leads (before_lines stage lines left) (map (foreign_given known left) lines) (after_lines stage lines left) }
+        → Leads (before_lines stage lines left) (map (foreign_live_line known left) lines) (after_lines stage lines left) }
 {}
 
 /// A `.REPT` yields its own line, and after it the lines of its body once for each round. An `.IRP` or `.IRPC` with a formal and a list
@@ -41,8 +41,8 @@ pub fn repeats_give_their_rounds()
         → HasRoom stage block (texts_of block.lines)
         (times (repeats.rept_count known block.first.text column) (map line_of (texts_of block.lines)))
         → Leads (before_block stage block)
-        (own_given known block.left block.first (repeats.remarks known block.first.text column)
-        ∷ map (expanded_given known (argument_count block.left))
+        (own_live_line known block.left block.first (repeats.remarks known block.first.text column)
+        ∷ map (expanded_live_line known (argument_count block.left))
         (times (repeats.rept_count known block.first.text column) (map line_of (texts_of block.lines))))
         (after_block stage block
         (length (times (repeats.rept_count known block.first.text column) (map line_of (texts_of block.lines))))) }
@@ -53,8 +53,8 @@ pub fn repeats_give_their_rounds()
         → AreForeign stage (repeated_lines rounds (texts_of block.lines))
         → HasRoom stage block (texts_of block.lines) (repeated_lines rounds (texts_of block.lines))
         → Leads (before_block stage block)
-        (own_given known block.left block.first (irp known block.first.text column).remarks
-        ∷ map (expanded_given known (argument_count block.left)) (repeated_lines rounds (texts_of block.lines)))
+        (own_live_line known block.left block.first (irp known block.first.text column).remarks
+        ∷ map (expanded_live_line known (argument_count block.left)) (repeated_lines rounds (texts_of block.lines)))
         (after_block stage block (length (repeated_lines rounds (texts_of block.lines)))) }
     ensures spelled { (known : KnownSymbols) (stage : Stage) (block : Block) (column : ℕ) (rounds : Repetition)
         → IsDirective stage block.first directive.Irpc column
@@ -63,8 +63,8 @@ pub fn repeats_give_their_rounds()
         → AreForeign stage (repeated_lines rounds (texts_of block.lines))
         → HasRoom stage block (texts_of block.lines) (repeated_lines rounds (texts_of block.lines))
         → Leads (before_block stage block)
-        (own_given known block.left block.first (irpc block.first.text column).remarks
-        ∷ map (expanded_given known (argument_count block.left)) (repeated_lines rounds (texts_of block.lines)))
+        (own_live_line known block.left block.first (irpc block.first.text column).remarks
+        ∷ map (expanded_live_line known (argument_count block.left)) (repeated_lines rounds (texts_of block.lines)))
         (after_block stage block (length (repeated_lines rounds (texts_of block.lines)))) }
 {}
 
@@ -75,8 +75,8 @@ pub fn calls_give_their_bodies()
         → IsLive stage → IsCall stage line body column → AreForeign stage (map line_of body) → depth left < most_expansions
         → stage.taken + 1 + length body ≤ most_lines
         → Leads (before_call stage line left)
-        (own_given known left line (actuals_from known line.text 0 column).remarks
-        ∷ map (expanded_given known (Some 0)) (map line_of body))
+        (own_live_line known left line (actuals_from known line.text 0 column).remarks
+        ∷ map (expanded_live_line known (Some 0)) (map line_of body))
         (after_call stage body left) }
 {}
 
@@ -89,17 +89,17 @@ pub fn conditions_give_all_or_nothing()
         → HasConditionLeft stage block → AreForeign stage block.lines → IsDirective stage block.close directive.Endc end
         → stage.taken + (length block.lines + 2) ≤ most_lines
         → Leads (before_block stage block)
-        (own_given known block.left block.first (condition_remarks known block.first.text column)
-        ∷ map (foreign_given known block.left) block.lines
-        ++ own_given known block.left block.close (flagged 0 block.close.text end) ∷ [])
+        (own_live_line known block.left block.first (condition_remarks known block.first.text column)
+        ∷ map (foreign_live_line known block.left) block.lines
+        ++ own_live_line known block.left block.close (flagged 0 block.close.text end) ∷ [])
         (after_block stage block 0) }
     ensures fails { (known : KnownSymbols) (stage : Stage) (block : Block) (column end : ℕ) → IsLive stage
         → IsDirective stage block.first directive.If column → (condition known block.first.text column).holds ≡ false
         → HasConditionLeft stage block → stage.conditions.nested ≡ 0 → AreForeign stage block.lines
         → IsDirective stage block.close directive.Endc end → stage.taken + (length block.lines + 2) ≤ most_lines
         → Leads (before_block stage block)
-        (own_given known block.left block.first (condition_remarks known block.first.text column)
-        ∷ own_given known block.left block.close (flagged 0 block.close.text end) ∷ [])
+        (own_live_line known block.left block.first (condition_remarks known block.first.text column)
+        ∷ own_live_line known block.left block.close (flagged 0 block.close.text end) ∷ [])
         (after_block stage block 0) }
 {}
 
@@ -137,9 +137,9 @@ pub fn end_is_the_last_line()
 {}
 
 /// After a live `.MEXIT` in an expansion, the lines after the expansion are left, with the conditions that were open around it.
-pub fn exits_leave_what_stood_after_the_call()
+pub fn exits_leave_what_follows_the_call()
     ensures { (known : KnownSymbols) (stage : Stage) (line : SourceLine) (column : ℕ) (rest : List SourceLine) (mark : Mark)
         (left : List RemainingItem) → IsLive stage → IsDirective stage line directive.Mexit column → stage.taken + 1 ≤ most_lines
-        → Leads (before_exit stage line rest mark left) (exit_given known mark left line (flagged 0 line.text column) ∷ [])
+        → Leads (before_exit stage line rest mark left) (exit_live_line known mark left line (flagged 0 line.text column) ∷ [])
         (after_exit stage mark left) }
 {}

@@ -6,7 +6,7 @@ ghost use Rattle.m11_scan.specs.Cutting.{tokens_from};
 ghost use Rattle.m11_scan.specs.Views.{bits_of};
 ghost use Rattle.m11_scan_statements.specs.Labels.{is_counter};
 ghost use Rattle.m11_unfold_rules.specs.Headers as spec;
-ghost use Rattle.m11_unfold_rules.specs.Headers.{header_seen, listed_seen};
+ghost use Rattle.m11_unfold_rules.specs.Headers.{header_model, listed_model};
 ghost use Rattle.m11_scan_expressions.specs.Remarks.{joined, remarks_of};
 
 use m11_base::Name;
@@ -42,7 +42,7 @@ pub fn header_at(
     column: u8,
     remarks: &mut Remarks,
 ) -> Result<Option<Header>, AllocError>
-    ensures header { IfOk result (λ header. header_seen header ≡ (spec.header line.now.text column).named) }
+    ensures header { IfOk result (λ header. header_model header ≡ (spec.header line.now.text column).named) }
     ensures remarks { IfOk result (λ _. remarks.new
         ≡ joined remarks.old (remarks_of (spec.header line.now.text column).flags [])) }
 {
@@ -157,7 +157,7 @@ pub enum FormalOrEnd {
 
 // The next item in a list of formals, at or after a column. Anything but a formal ends the list.
 fn listed_at(line: &Line, column: u8) -> FormalOrEnd
-    ensures { listed_seen result ≡ spec.listed_at line.now.text column }
+    ensures { listed_model result ≡ spec.listed_at line.now.text column }
 {
     match next_formal(line, column) {
         NextFormal::Ends => FormalOrEnd::Last(rest_flags(line, column)),

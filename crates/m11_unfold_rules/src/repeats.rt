@@ -21,9 +21,9 @@ pub fn rept_count<N: Names>(
     remarks: &mut Remarks,
 ) -> Result<u16, AllocError>
     ensures count { IfOk result (λ count. count
-        ≡ spec.rept_count (known_by (N.base names.now) (N.stands_for names.now)) line.now.text column) }
+        ≡ spec.rept_count (known_by (N.base names.now) (N.value_of_symbol names.now)) line.now.text column) }
     ensures remarks { IfOk result (λ _. remarks.new ≡ joined remarks.old
-        (spec.remarks (known_by (N.base names.now) (N.stands_for names.now)) line.now.text column)) }
+        (spec.remarks (known_by (N.base names.now) (N.value_of_symbol names.now)) line.now.text column)) }
     ensures most { IfOk result (λ count. count < 32768) }
 {
     if !has_expression(line, column) {

@@ -100,7 +100,7 @@ fn gives<F: Feed>(rt: &impl Abort, feed: &mut F, name: &str, wanted: &[NextByte]
 }
 
 // Checks the calls of each row with a feed that reads, one with a buffer of one byte, and, if no call has an error, one in memory.
-fn all_give(rt: &(impl Abort + AllocGlobal), rows: &[Giving]) -> Result<(), Fail> {
+fn check_feeds(rt: &(impl Abort + AllocGlobal), rows: &[Giving]) -> Result<(), Fail> {
     let bytes: &[u8] = b"abc";
     for (name, kind, inner, outer, wanted) in rows {
         let reader = ReaderFeed::new(SecondCallFails::new(bytes, *kind));
@@ -119,7 +119,7 @@ fn all_give(rt: &(impl Abort + AllocGlobal), rows: &[Giving]) -> Result<(), Fail
 
 #[test]
 fn feeds_give_their_bytes_and_fail_where_their_devices_do(rt: HostRuntime) -> Result<(), Fail> {
-    all_give(&rt, &GIVING)?;
+    check_feeds(&rt, &GIVING)?;
     let bytes: &[u8] = b"abc";
     let buffer = BufReader::with_capacity(rt.alloc(), 2, bytes)?;
     let wanted = [A, B, C, END, END];
@@ -169,7 +169,7 @@ fn put_through(rt: &impl Abort, written: &mut Vec<u8>, row: Taking<'_>) {
 }
 
 // Checks the puts of each row, and the bytes that its writer has received.
-fn all_take(rt: &(impl Abort + AllocGlobal), rows: &[Taking<'_>]) -> Result<(), Fail> {
+fn check_sinks(rt: &(impl Abort + AllocGlobal), rows: &[Taking<'_>]) -> Result<(), Fail> {
     for row in rows {
         let mut written = Vec::with_capacity(rt.alloc(), 8)?;
         put_through(rt, &mut written, *row);
@@ -207,8 +207,8 @@ fn written_through(
 }
 
 #[test]
-fn sinks_take_bytes_and_fail_where_their_devices_do(rt: HostRuntime) -> Result<(), Fail> {
-    all_take(&rt, &TAKING)?;
+fn sinks_accept_bytes_and_fail_where_their_devices_do(rt: HostRuntime) -> Result<(), Fail> {
+    check_sinks(&rt, &TAKING)?;
     let mut sink = MemorySink::new(rt.alloc());
     let counts = (sink.put(b"abc")?, sink.put(b"")?, sink.put(b"d")?);
     same(&rt, &"the counts", &counts, &(3, 0, 1));

@@ -50,7 +50,7 @@ fn check_names(rt: &impl Abort, names: &[(&str, Option<Op>)]) {
 }
 
 #[test]
-fn words_and_names_stand_for_their_instructions(rt: HostRuntime) {
+fn words_and_names_mean_their_instructions(rt: HostRuntime) {
     let mut reserved = 0u32;
     for word in 0..=u16::MAX {
         let instruction = decode(word);

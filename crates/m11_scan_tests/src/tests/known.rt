@@ -17,7 +17,7 @@ impl Names for Known {
 
     ghost base = { λ _. Octal };
 
-    ghost stands_for = { λ _ symbol. known symbol };
+    ghost value_of_symbol = { λ _ symbol. known symbol };
 
     fn radix(&self) -> Radix {
         Radix::Octal

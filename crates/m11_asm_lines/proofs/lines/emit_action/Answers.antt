@@ -1,7 +1,7 @@
 use Rattle.std.proofs.Common.{◌≡◌, ◌∙◌, IfOk, sym, subst, ap}
 use Rattle.m11_asm_rules.specs.Contents.{followed_by}
 use Rattle.m11_asm_rules.specs.Lines.{emission_by}
-use Rattle.m11_asm_lines.specs.Actions.{action_fields, action_seen}
+use Rattle.m11_asm_lines.specs.Actions.{action_fields, action_model}
 use Rattle.m11_asm_lines.specs.declared.actions.Action.{Action}
 use Rattle.m11_asm_lines.proofs.lines.emit_action.Goals as goal
 
@@ -15,5 +15,5 @@ returns-in-Operate c =
     let line = c.args.line.now.text in
     let P : Action → Type 0 = λ action. IfOk c.emit_operation.result (λ x. c.emit_operation.new.emission
     ≡ followed_by c.args.emission.now (emission_by c.args.map.now c.args.table.now line
-    (action_seen line c.args.operation.now.arguments action))) in
+    (action_model line c.args.operation.now.arguments action))) in
     subst P (sym c.in-Operate.is) c.emit_operation.ensures

@@ -53,10 +53,10 @@ returns g c =
       emptied-listing = emptied sink before.files task.listing c.args.opened.listing emptied-listing;
       runs = asm_runs text faults _ _ _ _ _ _ c.asm_run_with_seed-returned.result ran;
       gives = asm_gives text faults _ _ _ _ c.asm_run_with_seed-returned.result given;
-      kept = c.keep_some.ensures.keeps
+      kept = c.hand_back_some.ensures.keeps
           ∙ kept sink task.listing c.asm_run_with_seed-returned.new.listing _
           ∙ ap (λ files. keeping_some got task.listing listing' files)
           (c.keep.ensures.keeps
           ∙ ap (λ files. keeping task.object.now (got object') files) created);
-      opened = c.keep_some.ensures.counts ∙ c.keep.ensures.counts ∙ same;
+      opened = c.hand_back_some.ensures.counts ∙ c.keep.ensures.counts ∙ same;
     }

@@ -46,9 +46,9 @@ returns g c =
       emptied = emptied-tape;
       emptied-map = emptied sink before.files task.map c.args.opened.map emptied-map;
       runs = link_runs text faults _ _ _ _ _ _ _ c.link_run_with_seed-returned.result ran;
-      kept = c.keep_some.ensures.keeps
+      kept = c.hand_back_some.ensures.keeps
           ∙ kept sink task.map c.link_run_with_seed-returned.new.map _
           ∙ ap (λ files. keeping_some got task.map map' files)
           (c.keep.ensures.keeps ∙ ap (λ files. keeping task.tape.now (got tape') files) created);
-      opened = c.keep_some.ensures.counts ∙ c.keep.ensures.counts ∙ same;
+      opened = c.hand_back_some.ensures.counts ∙ c.keep.ensures.counts ∙ same;
     }

@@ -1,6 +1,6 @@
 use Rattle.std.proofs.Common.{sym, subst, refl, codes}
 use Rattle.clap.specs.Words.{found_of, rows_of, subcommand_rows_of}
-use Rattle.m11_cli_tasks.specs.Tasks.{EntriesGive, IsTask}
+use Rattle.m11_cli_tasks.specs.Tasks.{EntriesHaveResult, IsTask}
 use Rattle.m11_cli_tasks.specs.declared.tasks.Task.TheVariants.{Asm, Link, Sim}
 use Rattle.m11_cli_tasks.proofs.Addresses.{bottom_gives, err_is, start_gives}
 use Rattle.m11_cli_tasks.proofs.Entered.{excluded, none_left}
@@ -25,7 +25,7 @@ returns-in_err-link_task-clause-given c =
     let rows = rows_of (found_of link.entries.now) in
     let fault = c.in_err-link_task.field-0.0 in
     let entered = entered_is c.args.matches.now (codes "link") rows (link.ensures.found.0 refl) link.ensures.rows in
-    subst (EntriesGive (subcommand_rows_of c.args.matches.now)) (sym
+    subst (EntriesHaveResult (subcommand_rows_of c.args.matches.now)) (sym
     (err_is c.from_residual-in_err-link_task.result fault c.from_residual-in_err-link_task.ensures.1))
     (bottom_gives _ rows fault entered c.in_err-link_task.ensures.fault)
 
@@ -41,7 +41,7 @@ returns-in_err-sim_task-clause-given c =
     let rows = rows_of (found_of sim.entries.now) in
     let fault = c.in_err-sim_task.field-0.0 in
     let entered = entered_is c.args.matches.now (codes "sim") rows (sim.ensures.found.0 refl) sim.ensures.rows in
-    subst (EntriesGive (subcommand_rows_of c.args.matches.now)) (sym
+    subst (EntriesHaveResult (subcommand_rows_of c.args.matches.now)) (sym
     (err_is c.from_residual-in_err-sim_task.result fault c.from_residual-in_err-sim_task.ensures.1))
     (start_gives _ rows fault entered c.in_err-sim_task.ensures.fault)
 

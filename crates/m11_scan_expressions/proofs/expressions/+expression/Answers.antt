@@ -7,19 +7,19 @@ use Rattle.m11_scan_expressions.proofs.expressions.+expression.Goals as goal
 pub expression-operators-init : goal.expression-operators-init
 expression-operators-init g t c = record {
   reads =
-      first_exit (g.N.Names.stands_for c.args.names.now) c.args.line.now.text c.args.in_bracket c.args.radix c.args.tokens.now
+      first_exit (g.N.Names.value_of_symbol c.args.names.now) c.args.line.now.text c.args.in_bracket c.args.radix c.args.tokens.now
       c.first_term-first.result.length (quantity c.first_term-first.result.value) c.first_term-first.ensures.length c.first_term-first.ensures.value;
   within = c.first_term-first.ensures.within;
 }
 
 pub expression-returns-clause-length : goal.expression-returns-clause-length
 expression-returns-clause-length g t c =
-    length_exit (g.N.Names.stands_for c.args.names.now) c.args.line.now.text c.args.in_bracket c.args.radix c.args.tokens.now
+    length_exit (g.N.Names.value_of_symbol c.args.names.now) c.args.line.now.text c.args.in_bracket c.args.radix c.args.tokens.now
     c.operators.length (quantity c.operators.value) c.operators.invariant.reads c.operators.invariant.within c.in_default.ensures
 
 pub expression-returns-clause-value : goal.expression-returns-clause-value
 expression-returns-clause-value g t c =
-    value_exit (g.N.Names.stands_for c.args.names.now) c.args.line.now.text c.args.in_bracket c.args.radix c.args.tokens.now
+    value_exit (g.N.Names.value_of_symbol c.args.names.now) c.args.line.now.text c.args.in_bracket c.args.radix c.args.tokens.now
     c.operators.length (quantity c.operators.value) c.operators.invariant.reads
 
 pub expression-operators-preserved : goal.expression-operators-preserved
@@ -30,7 +30,7 @@ expression-operators-preserved g t c =
     let term = c.term-next.ensures.within in
     record {
       reads =
-          next_exit (g.N.Names.stands_for c.args.names.now) c.args.line.now.text c.args.in_bracket c.args.radix c.args.tokens.now
+          next_exit (g.N.Names.value_of_symbol c.args.names.now) c.args.line.now.text c.args.in_bracket c.args.radix c.args.tokens.now
           c.operators.length c.term-next.result.length c.in-Some.operator (quantity c.operators.value) (quantity c.term-next.result.value)
           (quantity c.combined-value.result) c.operators.invariant.reads c.in-Some.ensures c.term-next.ensures.length
           c.term-next.ensures.value c.combined-value.ensures;
@@ -39,14 +39,14 @@ expression-operators-preserved g t c =
 
 pub first_term-returns-in-Bracket-clause-value : goal.first_term-returns-in-Bracket-clause-value
 first_term-returns-in-Bracket-clause-value g t c =
-    bracket_exit (g.N.Names.stands_for c.args.names.now) c.args.line.now.text c.args.in_bracket c.args.radix c.args.tokens.now _ _
+    bracket_exit (g.N.Names.value_of_symbol c.args.names.now) c.args.line.now.text c.args.in_bracket c.args.radix c.args.tokens.now _ _
     c.expression-inner.result.length _ (quantity c.expression-inner.result.value) (quantity c.applied-value.result)
     c.in-len1-up.len_at_least c.in-Some.ensures c.in-Bracket.is c.expression-inner.ensures.length c.expression-inner.ensures.value
     c.bracketed_length-length.ensures.length c.applied-value.ensures
 
 pub first_term-returns-in_default-prefix-clause-value : goal.first_term-returns-in_default-prefix-clause-value
 first_term-returns-in_default-prefix-clause-value g t c =
-    plain_exit (g.N.Names.stands_for c.args.names.now) c.args.line.now.text c.args.in_bracket c.args.radix c.args.tokens.now _ _
+    plain_exit (g.N.Names.value_of_symbol c.args.names.now) c.args.line.now.text c.args.in_bracket c.args.radix c.args.tokens.now _ _
     c.term-part.result.length (quantity c.term-part.result.value) (quantity c.applied-value-in_default-prefix.result) _
     c.in-len1-up.len_at_least c.in-Some.ensures c.in_default-prefix.not-Bracket c.radix_under.ensures c.term-part.ensures.length
     c.term-part.ensures.value c.applied-value-in_default-prefix.ensures
@@ -58,20 +58,20 @@ first_term-returns-in_default-prefix-clause-length g t c =
 
 pub term-returns-then-is_term-clause-value : goal.term-returns-then-is_term-clause-value
 term-returns-then-is_term-clause-value g t c =
-    one_token (g.N.Names.stands_for c.args.names.now) c.args.line.now.text c.args.in_bracket c.args.radix c.args.tokens.now _
+    one_token (g.N.Names.value_of_symbol c.args.names.now) c.args.line.now.text c.args.in_bracket c.args.radix c.args.tokens.now _
     c.term_length-length.result (quantity c.atom-value.result) c.in-len1-up.len_at_least
     (sym c.is_term.ensures ∙ c.if-is_term.true) c.atom-value.ensures
 
 pub any_term-returns-in-Bracket-clause-value : goal.any_term-returns-in-Bracket-clause-value
 any_term-returns-in-Bracket-clause-value g t c =
-    bracket_exit (g.N.Names.stands_for c.args.names.now) c.args.line.now.text c.args.in_bracket c.args.radix c.args.tokens.now _ _
+    bracket_exit (g.N.Names.value_of_symbol c.args.names.now) c.args.line.now.text c.args.in_bracket c.args.radix c.args.tokens.now _ _
     c.expression-inner.result.length _ (quantity c.expression-inner.result.value) (quantity c.applied.result)
     c.in-len1-up.len_at_least c.in-Some.ensures c.in-Bracket.is c.expression-inner.ensures.length c.expression-inner.ensures.value
     c.bracketed_length.ensures.length c.applied.ensures
 
 pub any_term-returns-in_default-clause-value : goal.any_term-returns-in_default-clause-value
 any_term-returns-in_default-clause-value g t c =
-    plain_exit (g.N.Names.stands_for c.args.names.now) c.args.line.now.text c.args.in_bracket c.args.radix c.args.tokens.now _ _
+    plain_exit (g.N.Names.value_of_symbol c.args.names.now) c.args.line.now.text c.args.in_bracket c.args.radix c.args.tokens.now _ _
     c.first_term-part.result.length (quantity c.first_term-part.result.value) (quantity c.applied-in_default.result) _
     c.in-len1-up.len_at_least c.in-Some.ensures c.in_default.not-Bracket c.radix_under.ensures c.first_term-part.ensures.length
     c.first_term-part.ensures.value c.applied-in_default.ensures

@@ -18,7 +18,7 @@ decreases-any_term g l = 4 * length l.tokens.now
 abbrev pub invariant-expression-operators : goal.invariant-expression-operators
 invariant-expression-operators g l = record {
   reads :
-      ReadsOf (g.N.Names.stands_for l.names) l.line.text l.in_bracket l.radix l.tokens l.length (quantity l.value);
+      ReadsOf (g.N.Names.value_of_symbol l.names) l.line.text l.in_bracket l.radix l.tokens l.length (quantity l.value);
   within : l.length ≤ length l.tokens;
 }
 

@@ -7,6 +7,6 @@ use Rattle.m11_scan_expressions.proofs.expressions.term_value.Goals as goal
 
 pub returns : goal.returns
 returns g c =
-    let term = item (g.N.Names.stands_for c.args.names.now) (lexeme c.args.line.now.text c.args.token.now) in
+    let term = item (g.N.Names.value_of_symbol c.args.names.now) (lexeme c.args.line.now.text c.args.token.now) in
     c.atom.ensures ∙ ap (λ (r : Radix). atom_value r term.atom) c.radix.ensures
     ∙ sym (alone (g.N.Names.base c.args.names.now) term c.requires)

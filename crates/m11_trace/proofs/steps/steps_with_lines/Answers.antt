@@ -27,26 +27,26 @@ pub returns-in_err-put_line_from : goal.returns-in_err-put_line_from
 returns-in_err-put_line_from g c =
     let r = c.from_residual in
     let p = err_from_is_err_and r.result r.ensures.1 in
-    let line = line_is _ _ _ _ _ _ _ c.steps.machine c.take_step-turn.new.machine c.memory.ensures c.memory-in-steps-2.ensures c.take_step-turn.ensures.shot (λ le. c.ready.ensures.same le (keeps_up c.args.first c.steps.count c.steps.before _ _ (sym c.memory.ensures) c.steps.invariant.4)) in
+    let line = line_is _ _ _ _ _ _ _ c.steps.machine c.record_step-turn.new.machine c.memory.ensures c.memory-in-steps-2.ensures c.record_step-turn.ensures.shot (λ le. c.ready.ensures.same le (keeps_up c.args.first c.steps.count c.steps.before _ _ (sym c.memory.ensures) c.steps.invariant.4)) in
     rw (p.1, p.2)
     (not_put _ _ _ _ _ _ _ _ _ _ _ c.steps.invariant.0 _ _
     (output_of (g.M.Sink.text c.steps.messages) (g.M.Sink.faults c.steps.messages)) _ _ _ _
-    c.steps.invariant.1 c.steps.invariant.3 c.steps.invariant.2 c.steps-test.true (stops_at c.steps.invariant.0 c.args.stops.now c.steps.waiting c.steps.invariant.5 c.counter_of-address.result c.steps.machine _ _ c.counter_of-address.ensures c.is_due.ensures c.if-is_due.false) c.take_step-turn.ensures.does
+    c.steps.invariant.1 c.steps.invariant.3 c.steps.invariant.2 c.steps-test.true (stops_at c.steps.invariant.0 c.args.stops.now c.steps.waiting c.steps.invariant.5 c.counter_of-address.result c.steps.machine _ _ c.counter_of-address.ensures c.is_due.ensures c.if-is_due.false) c.record_step-turn.ensures.does
     line c.in_err-put_line_from.ensures.puts)
 
 pub returns-in-Stopped : goal.returns-in-Stopped
 returns-in-Stopped g c =
     let taken = c.steps.invariant.0 in
-    let line = line_is _ _ _ _ _ _ _ c.steps.machine c.take_step-turn.new.machine c.memory.ensures c.memory-in-steps-2.ensures c.take_step-turn.ensures.shot (λ le. c.ready.ensures.same le (keeps_up c.args.first c.steps.count c.steps.before _ _ (sym c.memory.ensures) c.steps.invariant.4)) in
+    let line = line_is _ _ _ _ _ _ _ c.steps.machine c.record_step-turn.new.machine c.memory.ensures c.memory-in-steps-2.ensures c.record_step-turn.ensures.shot (λ le. c.ready.ensures.same le (keeps_up c.args.first c.steps.count c.steps.before _ _ (sym c.memory.ensures) c.steps.invariant.4)) in
     let put = c.in_ok-put_line_from.ensures.puts in
     let going =
     one_made _ _ _ _ _ _ _ taken c.steps.invariant.1 c.steps.invariant.3 _ _ _ c.steps-test.true (stops_at taken c.args.stops.now c.steps.waiting c.steps.invariant.5 c.counter_of-address.result c.steps.machine _ _ c.counter_of-address.ensures c.is_due.ensures c.if-is_due.false)
-    (rw c.in-Stopped.is at c.take_step-turn.ensures.does) in
+    (rw c.in-Stopped.is at c.record_step-turn.ensures.does) in
     let shown =
     one_shown _ _ _ _ _ (output_of (g.M.Sink.text c.steps.messages) (g.M.Sink.faults c.steps.messages)) c.steps.invariant.2 c.steps.machine
-    c.take_step-turn.new.machine (Stopped c.in-Stopped.stop) _ _ _ _
+    c.record_step-turn.new.machine (Stopped c.in-Stopped.stop) _ _ _ _
     (output_of (g.M.Sink.text c.put_line_from.new.messages) (g.M.Sink.faults c.put_line_from.new.messages))
-    c.steps.invariant.1.long c.take_step-turn.ensures.shot c.keep.ensures line put.0 put.1 in (
+    c.steps.invariant.1.long c.record_step-turn.ensures.shot c.keep.ensures line put.0 put.1 in (
       _,
       at_stop _ _ _ _ _ _ _ _ _ going,
       going.long,
@@ -58,18 +58,18 @@ returns-in-Stopped g c =
 pub returns-then-watched_word-watched : goal.returns-then-watched_word-watched
 returns-then-watched_word-watched g c =
     let taken = c.steps.invariant.0 in
-    let line = line_is _ _ _ _ _ _ _ c.steps.machine c.take_step-turn.new.machine c.memory.ensures c.memory-in-steps-2.ensures c.take_step-turn.ensures.shot (λ le. c.ready.ensures.same le (keeps_up c.args.first c.steps.count c.steps.before _ _ (sym c.memory.ensures) c.steps.invariant.4)) in
+    let line = line_is _ _ _ _ _ _ _ c.steps.machine c.record_step-turn.new.machine c.memory.ensures c.memory-in-steps-2.ensures c.record_step-turn.ensures.shot (λ le. c.ready.ensures.same le (keeps_up c.args.first c.steps.count c.steps.before _ _ (sym c.memory.ensures) c.steps.invariant.4)) in
     let put = c.in_ok-put_line_from.ensures.puts in
     let going =
     one_made _ _ _ _ _ _ _ taken c.steps.invariant.1 c.steps.invariant.3 _ _ _ c.steps-test.true (stops_at taken c.args.stops.now c.steps.waiting c.steps.invariant.5 c.counter_of-address.result c.steps.machine _ _ c.counter_of-address.ensures c.is_due.ensures c.if-is_due.false)
-    (rw c.in-Next.is at c.take_step-turn.ensures.does) in
+    (rw c.in-Next.is at c.record_step-turn.ensures.does) in
     let shown =
     one_shown _ _ _ _ _ (output_of (g.M.Sink.text c.steps.messages) (g.M.Sink.faults c.steps.messages)) c.steps.invariant.2 c.steps.machine
-    c.take_step-turn.new.machine Next _ _ _ _
+    c.record_step-turn.new.machine Next _ _ _ _
     (output_of (g.M.Sink.text c.put_line_from.new.messages) (g.M.Sink.faults c.put_line_from.new.messages))
-    c.steps.invariant.1.long c.take_step-turn.ensures.shot c.keep.ensures line put.0 put.1 in (
+    c.steps.invariant.1.long c.record_step-turn.ensures.shot c.keep.ensures line put.0 put.1 in (
       _,
-      at_change _ _ _ _ _ _ _ _ taken going (is_changed c.args.stops.now c.steps.machine c.take_step-turn.new.machine _ _ _ _ c.memory-in-steps.ensures c.memory-in-Next.ensures c.watched_word-watched.ensures c.watched_word.ensures c.if-watched_word-watched.true),
+      at_change _ _ _ _ _ _ _ _ taken going (is_changed c.args.stops.now c.steps.machine c.record_step-turn.new.machine _ _ _ _ c.memory-in-steps.ensures c.memory-in-Next.ensures c.watched_word-watched.ensures c.watched_word.ensures c.if-watched_word-watched.true),
       going.long,
       shown.kept,
       shown.text,
@@ -79,22 +79,22 @@ returns-then-watched_word-watched g c =
 pub steps-preserved : goal.steps-preserved
 steps-preserved g c =
     let taken = c.steps.invariant.0 in
-    let line = line_is _ _ _ _ _ _ _ c.steps.machine c.take_step-turn.new.machine c.memory.ensures c.memory-in-steps-2.ensures c.take_step-turn.ensures.shot (λ le. c.ready.ensures.same le (keeps_up c.args.first c.steps.count c.steps.before _ _ (sym c.memory.ensures) c.steps.invariant.4)) in
+    let line = line_is _ _ _ _ _ _ _ c.steps.machine c.record_step-turn.new.machine c.memory.ensures c.memory-in-steps-2.ensures c.record_step-turn.ensures.shot (λ le. c.ready.ensures.same le (keeps_up c.args.first c.steps.count c.steps.before _ _ (sym c.memory.ensures) c.steps.invariant.4)) in
     let put = c.in_ok-put_line_from.ensures.puts in (
       _,
       one_made _ _ _ _ _ _ _ taken c.steps.invariant.1 c.steps.invariant.3 _ _ _ c.steps-test.true (stops_at taken c.args.stops.now c.steps.waiting c.steps.invariant.5 c.counter_of-address.result c.steps.machine _ _ c.counter_of-address.ensures c.is_due.ensures c.if-is_due.false)
-          (rw c.in-Next.is at c.take_step-turn.ensures.does),
+          (rw c.in-Next.is at c.record_step-turn.ensures.does),
       one_shown _ _ _ _ _ (output_of (g.M.Sink.text c.steps.messages) (g.M.Sink.faults c.steps.messages)) c.steps.invariant.2 _ _ _ _ _ _ _
           (output_of (g.M.Sink.text c.put_line_from.new.messages) (g.M.Sink.faults c.put_line_from.new.messages))
-          c.steps.invariant.1.long c.take_step-turn.ensures.shot c.keep.ensures line put.0 put.1,
+          c.steps.invariant.1.long c.record_step-turn.ensures.shot c.keep.ensures line put.0 put.1,
       (
-        is_quiet c.args.stops.now c.steps.machine c.take_step-turn.new.machine _ _ _ _ c.memory-in-steps.ensures c.memory-in-Next.ensures c.watched_word-watched.ensures c.watched_word.ensures
+        is_quiet c.args.stops.now c.steps.machine c.record_step-turn.new.machine _ _ _ _ c.memory-in-steps.ensures c.memory-in-Next.ensures c.watched_word-watched.ensures c.watched_word.ensures
             c.if-watched_word-watched.false,
         c.steps.invariant.3,
       ),
       keeps_up c.args.first (c.steps.count + 1) c.put_line_from.new.before _ _ c.memory-in-steps-2.ensures c.in_ok-put_line_from.ensures.same,
       counts_on taken c.args.stops.now c.steps.waiting c.steps.invariant.5 c.counter_of-address.result
-          (made c.steps.machine Next c.take_step-turn.new.machine) _ c.counter_of-address.ensures c.count_down.ensures,
+          (made c.steps.machine Next c.record_step-turn.new.machine) _ c.counter_of-address.ensures c.count_down.ensures,
     )
 
 pub returns : goal.returns

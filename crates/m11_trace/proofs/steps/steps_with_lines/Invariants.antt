@@ -2,7 +2,7 @@ use Rattle.std.proofs.Common.{◌≡◌, List, map, ◌-◌}
 use Rattle.m11_cpu_machine.specs.Dialogue.{both, output_of}
 use Rattle.m11_cpu_machine.specs.declared.stop.Turn.TheVariants.{Next}
 use Rattle.std.specs.List.{AllByRecursion}
-use Rattle.m11_trace.specs.Changes.{KeepsUp}
+use Rattle.m11_trace.specs.Changes.{CopyMatches}
 use Rattle.m11_trace.specs.Stops.{IsNoChange}
 use Rattle.m11_trace.specs.Taken.{TracedStep}
 use Rattle.m11_trace.proofs.Going.{Going, Shown}
@@ -17,7 +17,7 @@ invariant-steps g l = (taken : List TracedStep)
     Next taken
     × Shown l.fn.symbols l.fn.first taken l.recent.items (output_of (g.M.Sink.text l.fn.messages) (g.M.Sink.faults l.fn.messages))
     (output_of (g.M.Sink.text l.messages) (g.M.Sink.faults l.messages))
-    × AllByRecursion (IsNoChange l.fn.stops) taken × KeepsUp l.fn.first l.count l.before l.machine.memory
+    × AllByRecursion (IsNoChange l.fn.stops) taken × CopyMatches l.fn.first l.count l.before l.machine.memory
     × (l.waiting ≡ map (left_of taken) l.fn.stops.breakpoints.items)
 
 abbrev pub decreases-steps : goal.decreases-steps

@@ -12,7 +12,7 @@ pub returns-in_default-clause-remarks : goal.returns-in_default-clause-remarks
 returns-in_default-clause-remarks g c =
     let some = c.actuals-test.true in
     let is : c.actuals.left ≡ suc (c.actuals.left - 1) = omega arith in
-    let step = no_actual (known_by (g.N.Names.base c.args.names.now) (g.N.Names.stands_for c.args.names.now)) c.args.line.now.text
+    let step = no_actual (known_by (g.N.Names.base c.args.names.now) (g.N.Names.value_of_symbol c.args.names.now)) c.args.line.now.text
     c.actuals.left _ c.actuals.begin is (sym c.in_default.ensures) in
     sym (joined_nothing c.actuals.remarks) ∙ ap (λ (a : ActualTexts). joined c.actuals.remarks a.remarks) (sym step) ∙ c.actuals.invariant.remarks
 
@@ -20,7 +20,7 @@ pub actuals-preserved : goal.actuals-preserved
 actuals-preserved g c =
     let some = c.actuals-test.true in
     let is : c.actuals.left ≡ suc (c.actuals.left - 1) = omega arith in
-    let known = known_by (g.N.Names.base c.args.names.now) (g.N.Names.stands_for c.args.names.now) in
+    let known = known_by (g.N.Names.base c.args.names.now) (g.N.Names.value_of_symbol c.args.names.now) in
     let line = c.args.line.now.text in
     let more = actuals_from known line (c.actuals.left - 1) c.separator_at-begin.result.end in
     let step = actual_on known line c.actuals.left (c.actuals.left - 1) c.actuals.begin is c.in-Some.actual c.separator_at-begin.result.end

@@ -9,9 +9,9 @@ abbrev pub invariant-names : goal.invariant-names
 invariant-names g l = record {
   leads :
       Leads l.remarks l.initial.remarks
-      (names_in (tested (known_by (g.N.Names.base l.names) (g.N.Names.stands_for l.names)) l.wants_defined)
+      (names_in (tested (known_by (g.N.Names.base l.names) (g.N.Names.value_of_symbol l.names)) l.wants_defined)
       (length l.line.text) l.before (tokens_from l.line.text l.begin))
-      (names_at (known_by (g.N.Names.base l.names) (g.N.Names.stands_for l.names)) l.wants_defined l.line.text l.column);
+      (names_at (known_by (g.N.Names.base l.names) (g.N.Names.value_of_symbol l.names)) l.wants_defined l.line.text l.column);
 }
 
 abbrev pub decreases-names : goal.decreases-names

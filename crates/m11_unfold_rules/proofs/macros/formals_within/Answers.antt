@@ -4,7 +4,7 @@ use Rattle.std.specs.Int.RustNames.{bit_or}
 use Rattle.std.proofs.lemmas.List.{append-nil, append_assoc}
 use Rattle.m11_scan.specs.Views.{bits_of}
 use Rattle.m11_scan_statements.specs.declared.actuals.Separator.{Separator}
-use Rattle.m11_unfold_rules.specs.Headers.{FormalList, formals_within, listed_seen}
+use Rattle.m11_unfold_rules.specs.Headers.{FormalList, formals_within, listed_model}
 use Rattle.m11_unfold_rules.specs.declared.macros.FormalOrEnd.TheVariants.{Last}
 use Rattle.m11_unfold_rules.specs.declared.macros.MacroFormal.{MacroFormal}
 use Rattle.m11_unfold_rules.proofs.Headers.{formal_on, listed_on}
@@ -17,7 +17,7 @@ returns-in-Last-clause-list c =
     let is : c.formals.left ≡ suc (c.formals.left - 1) = omega arith in
     let step = listed_on c.args.line.now.text c.formals.left (c.formals.left - 1) c.formals.end c.separator_at-begin.result.end is
     (ap (λ (s : Separator). s.end) c.separator_at-begin.ensures)
-    (listed_seen (Last c.in-Last.last)) c.in-Last.ensures in
+    (listed_model (Last c.in-Last.last)) c.in-Last.ensures in
     sym (append-nil _) ∙ ap (λ (f : FormalList). c.formals.list.items ++ f.list) (sym step) ∙ c.formals.invariant.list
 
 pub returns-in-Last-clause-flags : goal.returns-in-Last-clause-flags
@@ -26,7 +26,7 @@ returns-in-Last-clause-flags c =
     let is : c.formals.left ≡ suc (c.formals.left - 1) = omega arith in
     let step = listed_on c.args.line.now.text c.formals.left (c.formals.left - 1) c.formals.end c.separator_at-begin.result.end is
     (ap (λ (s : Separator). s.end) c.separator_at-begin.ensures)
-    (listed_seen (Last c.in-Last.last)) c.in-Last.ensures in
+    (listed_model (Last c.in-Last.last)) c.in-Last.ensures in
     c.with.ensures ∙ ap (λ (f : FormalList). bit_or (bits_of c.formals.flags) f.flags) (sym step) ∙ c.formals.invariant.flags
 
 pub formals-preserved : goal.formals-preserved

@@ -1,8 +1,8 @@
 use Rattle.std.proofs.Common.{List, Option, subst, sym, ap, ◌∙◌}
-use Rattle.m11_asm_directives.specs.Settings.{setting_seen}
+use Rattle.m11_asm_directives.specs.Settings.{setting_model}
 use Rattle.m11_asm_rules.specs.Fields.{Fields}
 use Rattle.m11_asm_rules.specs.SymbolUses.{action_uses, uses_of_fields}
-use Rattle.m11_asm_lines.specs.Actions.{action_fields, action_seen}
+use Rattle.m11_asm_lines.specs.Actions.{action_fields, action_model}
 use Rattle.m11_asm_lines.specs.UsedSymbols.{Adds}
 use Rattle.m11_asm_lines.specs.declared.actions.Action.{Action}
 use Rattle.m11_scan_statements.specs.declared.spans.Span.{Span}
@@ -12,23 +12,23 @@ pub returns-in-Set : goal.returns-in-Set
 returns-in-Set c = λ table are.
     let line = c.args.line.now.text in
     let arguments = c.args.operation.now.arguments in
-    let P : Action → Type 0 = λ action. Adds (action_uses table line (action_seen line arguments action)) c.args.self.now c.add_setting.new.self
+    let P : Action → Type 0 = λ action. Adds (action_uses table line (action_model line arguments action)) c.args.self.now c.add_setting.new.self
     c.add_setting.result in
-    let N : List (Option Span) → Type 0 = λ l. Adds (action_uses table line (setting_seen line l c.in-Set.setting)) c.args.self.now
+    let N : List (Option Span) → Type 0 = λ l. Adds (action_uses table line (setting_model line l c.in-Set.setting)) c.args.self.now
     c.add_setting.new.self c.add_setting.result in
     subst P (sym c.in-Set.is) (subst N c.as_slice.ensures.value (c.add_setting.ensures table))
 
 pub returns-in-Store : goal.returns-in-Store
 returns-in-Store c = λ table are.
     let line = c.args.line.now.text in
-    let P : Action → Type 0 = λ action. Adds (action_uses table line (action_seen line c.args.operation.now.arguments action)) c.args.self.now
+    let P : Action → Type 0 = λ action. Adds (action_uses table line (action_model line c.args.operation.now.arguments action)) c.args.self.now
     c.add_storage.new.self c.add_storage.result in
     subst P (sym c.in-Store.is) c.add_storage.ensures
 
 pub returns-in-Operate : goal.returns-in-Operate
 returns-in-Operate c = λ table are.
     let line = c.args.line.now.text in
-    let P : Action → Type 0 = λ action. Adds (action_uses table line (action_seen line c.args.operation.now.arguments action)) c.args.self.now
+    let P : Action → Type 0 = λ action. Adds (action_uses table line (action_model line c.args.operation.now.arguments action)) c.args.self.now
     c.add_fields.new.self c.add_fields.result in
     let F : Fields → Type 0 = λ fields. Adds (uses_of_fields fields) c.args.self.now c.add_fields.new.self c.add_fields.result in
     subst P (sym c.in-Operate.is)

@@ -1,7 +1,7 @@
 use Rattle.std.proofs.Common.{◌≡◌, ◌∙◌, suc, ◌-◌, ◌++◌, Some, None, sym, ap, arith}
 use Rattle.m11_asm_rules.specs.Elements.{ListAt, elements_within}
 use Rattle.m11_scan_expressions.specs.Tokens.{Expression}
-use Rattle.m11_asm_operands.specs.Elements.{elements_seen}
+use Rattle.m11_asm_operands.specs.Elements.{elements_model}
 use Rattle.m11_asm_operands.proofs.Listing.{after_read, element_by, with_one, without_more}
 use Rattle.m11_asm_operands.proofs.elements.Elements.read.Goals as goal
 
@@ -16,7 +16,7 @@ returns-in-None c =
     (sym c.after_comma.ensures ∙ c.in-None.is)) in
     record {
       list = without_more line c.elements.self.list.items c.push.new.self.items read.result.expr c.push.ensures.items
-          ∙ ap (λ (e : ListAt Expression). elements_seen line c.elements.self.list.items ++ e.list) (sym step) ∙ c.elements.invariant.list;
+          ∙ ap (λ (e : ListAt Expression). elements_model line c.elements.self.list.items ++ e.list) (sym step) ∙ c.elements.invariant.list;
       end = read.ensures.end ∙ ap (λ (e : ListAt Expression). e.end) (sym step) ∙ c.elements.invariant.end;
     }
 
@@ -33,7 +33,7 @@ elements-preserved c =
     (sym c.after_comma.ensures ∙ c.in-Some.is)) in
     record {
       list = with_one line c.elements.self.list.items c.push.new.self.items read.result.expr more.list c.push.ensures.items
-          ∙ ap (λ (e : ListAt Expression). elements_seen line c.elements.self.list.items ++ e.list) (sym step) ∙ c.elements.invariant.list;
+          ∙ ap (λ (e : ListAt Expression). elements_model line c.elements.self.list.items ++ e.list) (sym step) ∙ c.elements.invariant.list;
       end = ap (λ (e : ListAt Expression). e.end) (sym step) ∙ c.elements.invariant.end;
       room = omega arith;
     }

@@ -3,7 +3,7 @@ use Rattle.m11_obj.specs.Reading.{relocations_left}
 use Rattle.m11_obj.specs.Records as records
 use Rattle.m11_obj.proofs.Unread.{are_where_checked, record_read}
 use Rattle.m11_link_modules.specs.Parts.{Relocations}
-use Rattle.m11_link_modules.specs.Steps.{RulesTake}
+use Rattle.m11_link_modules.specs.Steps.{RulesAccept}
 use Rattle.m11_link_modules.proofs.Taking.{Outcome}
 use Rattle.m11_link.specs.Emit.{relocated_parts}
 use Rattle.m11_link.proofs.Emitted.{content_block, relocations_refused, relocations_taken}
@@ -15,7 +15,7 @@ returns-in_err-branch-clause-takes g c = λ tape plan before bytes stands e.
     let unread = c.args.unread.now in
     let relocations = relocations_left unread in
     let are = are_where_checked unread tt (sym c.in_ok-store_relocations.ensures.read) in
-    let P : Outcome → Type 0 = λ judged. RulesTake c.args.self.now.known c.store_relocations.new.self.known
+    let P : Outcome → Type 0 = λ judged. RulesAccept c.args.self.now.known c.store_relocations.new.self.known
     (Relocations ∷ relocated_parts relocations) judged in
     content_block plan before _ _ c.args.self.now c.store_relocations.new.self bytes (records.Relocations relocations)
     c.from_residual-in_err-branch.result (e ∙ record_read unread are)
@@ -28,7 +28,7 @@ returns-clause-takes g c = λ tape plan before bytes stands e.
     let unread = c.args.unread.now in
     let relocations = relocations_left unread in
     let are = are_where_checked unread tt (sym c.in_ok-store_relocations.ensures.read) in
-    let P : Outcome → Type 0 = λ judged. RulesTake c.args.self.now.known c.store_relocations.new.self.known
+    let P : Outcome → Type 0 = λ judged. RulesAccept c.args.self.now.known c.store_relocations.new.self.known
     (Relocations ∷ relocated_parts relocations) judged in
     content_block plan before _ _ c.args.self.now c.begin.new.self bytes (records.Relocations relocations)
     c.begin.result (e ∙ record_read unread are)

@@ -1,6 +1,6 @@
 use Rattle.std.proofs.Common.{◌∙◌, ap, refl, Ok}
 use Rattle.m11_link_modules.specs.Grammar.{directory_parts}
-use Rattle.m11_link_modules.proofs.KnownAfter.{taken_after}
+use Rattle.m11_link_modules.proofs.KnownAfter.{accepted_after}
 use Rattle.m11_link_layout.specs.Layout.{LayoutState}
 use Rattle.m11_link_layout.proofs.Standing.{directory_noted, fault_reported, memory_refused, parts_taken}
 use Rattle.m11_link_layout.proofs.layout.Layout.accept_entries.Goals as goal
@@ -14,7 +14,7 @@ returns-in_err-directory-clause-takes c = λ bottom before s.
 pub returns-clause-takes : goal.returns-clause-takes
 returns-clause-takes c = λ bottom before s.
     parts_taken bottom before (directory_parts c.args.entries.now) c.args.self.now c.self.view_is s
-    (λ k. taken_after before c.self.inside.rules c.directory.new.self (directory_parts c.args.entries.now) (Ok tt) k
+    (λ k. accepted_after before c.self.inside.rules c.directory.new.self (directory_parts c.args.entries.now) (Ok tt) k
     c.in_ok-directory.ensures)
     (directory_noted c.self.inside.bottom c.args.entries.now c.self.inside.tables c.add_entries.new.self
     c.in_ok-add_entries.ensures) refl refl

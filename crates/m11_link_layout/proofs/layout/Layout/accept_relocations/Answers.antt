@@ -1,8 +1,8 @@
 use Rattle.std.proofs.Common.{◌∷◌, ◌++◌, List, sym, subst, refl, Ok}
 use Rattle.m11_obj.proofs.Unread.{are_where_checked}
 use Rattle.m11_link_modules.specs.Parts.{Part, Relocations}
-use Rattle.m11_link_modules.specs.Steps.{RulesTake}
-use Rattle.m11_link_modules.proofs.KnownAfter.{taken_after}
+use Rattle.m11_link_modules.specs.Steps.{RulesAccept}
+use Rattle.m11_link_modules.proofs.KnownAfter.{accepted_after}
 use Rattle.m11_link_modules.proofs.Taking.{Outcome}
 use Rattle.m11_link_modules.proofs.Unread.{parts_left, record_of_parts}
 use Rattle.m11_link_layout.specs.Layout.{LayoutAfter}
@@ -16,7 +16,7 @@ returns-in_err-branch-clause-takes c = λ bottom before bytes s e.
     let are = are_where_checked unread tt (sym c.in_ok-add_relocations.ensures.read) in
     let old = c.args.self.now.known in
     let new = c.add_relocations.new.self.known in
-    let P : Outcome → Type 0 = λ judged. RulesTake old new parts judged in
+    let P : Outcome → Type 0 = λ judged. RulesAccept old new parts judged in
     block_taken bottom before parts c.add_relocations.new.self bytes c.from_residual-in_err-branch.result
     (record_of_parts bytes unread e are)
     (fault_reported before parts old new c.in_err-branch.field-0.0 c.add_relocations.new.self bottom
@@ -30,10 +30,10 @@ returns-clause-takes c = λ bottom before bytes s e.
     let are = are_where_checked unread tt (sym c.in_ok-add_relocations.ensures.read) in
     let old = c.args.self.now.known in
     let new = c.add_relocations.new.self.known in
-    let P : Outcome → Type 0 = λ judged. RulesTake old new parts judged in
+    let P : Outcome → Type 0 = λ judged. RulesAccept old new parts judged in
     let Q : List Part → Type 0 = λ these. LayoutAfter bottom (before ++ these) c.add_relocations.new.self in
     subst Q (sym (record_of_parts bytes unread e are))
     (parts_taken bottom before parts c.args.self.now refl s
-    (λ k. taken_after before old new parts (Ok tt) k (subst P c.in_ok-branch.was c.in_ok-add_relocations.ensures.judged))
+    (λ k. accepted_after before old new parts (Ok tt) k (subst P c.in_ok-branch.was c.in_ok-add_relocations.ensures.judged))
     (rw c.in_ok-branch.was at c.in_ok-add_relocations.ensures.noted) c.in_ok-add_relocations.ensures.bottom
     c.in_ok-add_relocations.ensures.kept)

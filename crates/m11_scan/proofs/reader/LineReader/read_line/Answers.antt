@@ -49,8 +49,8 @@ returns-then-not-is_unbegun-clause-reads g c =
     c.read_source.new.feed refl (position g.F.Feed.text g.F.Feed.faults c.args.feeds.now c.args.self.now)
     c.sources.self-inside.bytes_left c.read_source.new.bytes_left c.sources.self-inside.lines_left c.sources.self-inside.line
     c.read_source.new.line c.sources.invariant.seeks (rw c.in-Ok-SourceEnd.field-0-is at c.in-Ok-SourceEnd.ensures)
-    c.keep_return.new.self.kept (sym c.is_unbegun.ensures ∙ c.if-not-is_unbegun.true)
-    (ap (λ (l : OpenLine). l.kept) c.keep_return.ensures)
+    c.append_return.new.self.kept (sym c.is_unbegun.ensures ∙ c.if-not-is_unbegun.true)
+    (ap (λ (l : OpenLine). l.kept) c.append_return.ensures)
 
 pub sources-preserved : goal.sources-preserved
 sources-preserved g c = record {

@@ -10,7 +10,7 @@ use Rattle.m11_unfold.proofs.state.State.open_condition.Goals as goal
 
 pub returns-clause-remarks : goal.returns-clause-remarks
 returns-clause-remarks g c =
-    let known = known_by (g.N.Names.base c.args.names.now) (g.N.Names.stands_for c.args.names.now) in
+    let known = known_by (g.N.Names.base c.args.names.now) (g.N.Names.value_of_symbol c.args.names.now) in
     let text = c.args.line.now.text in
     let asked = condition known text c.args.column in
     let end = ap (λ (a : Verdict). a.end) c.in_ok-verdict.ensures.verdict in

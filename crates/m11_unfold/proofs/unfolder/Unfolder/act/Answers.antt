@@ -6,11 +6,11 @@ use Rattle.m11_unfold.proofs.unfolder.Unfolder.act.Goals as goal
 pub invariant_of-self-2 : goal.invariant_of-self-2
 invariant_of-self-2 g c =
     kept_acted (stage_of c.self.inside.state) (stage_of c.act-acted.new.self) c.act-acted.result
-    (known_by (g.N.Names.base c.args.names.now) (g.N.Names.stands_for c.args.names.now)) c.args.line.now.text c.self.invariant
+    (known_by (g.N.Names.base c.args.names.now) (g.N.Names.value_of_symbol c.args.names.now)) c.args.line.now.text c.self.invariant
     c.act-acted.ensures.within c.act-acted.ensures.after c.act-acted.ensures.kept
 
 pub returns-clause-kept : goal.returns-clause-kept
 returns-clause-kept g c =
     kept_acted (stage_of c.self.inside.state) (stage_of c.act-acted.new.self) c.act-acted.result
-    (known_by (g.N.Names.base c.args.names.now) (g.N.Names.stands_for c.args.names.now)) c.args.line.now.text c.self.invariant
+    (known_by (g.N.Names.base c.args.names.now) (g.N.Names.value_of_symbol c.args.names.now)) c.args.line.now.text c.self.invariant
     c.act-acted.ensures.within c.act-acted.ensures.after c.act-acted.ensures.kept

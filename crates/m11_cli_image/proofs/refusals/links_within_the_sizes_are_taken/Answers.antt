@@ -1,5 +1,0 @@
-use Rattle.m11_cli_image.proofs.ItemsTaken.{are_taken}
-use Rattle.m11_cli_image.proofs.refusals.links_within_the_sizes_are_taken.Goals as goal
-
-pub returns : goal.returns
-returns c = are_taken

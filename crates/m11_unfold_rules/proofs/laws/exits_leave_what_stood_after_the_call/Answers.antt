@@ -1,5 +1,0 @@
-use Rattle.m11_unfold_rules.proofs.Constructs.{exits}
-use Rattle.m11_unfold_rules.proofs.laws.exits_leave_what_stood_after_the_call.Goals as goal
-
-pub returns : goal.returns
-returns c = exits
