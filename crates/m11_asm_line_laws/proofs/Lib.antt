@@ -1,5 +1,11 @@
+mod Columns
+mod ColumnLists
+mod ColumnParts
+mod ColumnOperands
+mod ColumnOperations
 mod Listed
 mod NamesListed
+mod Printing
 mod ReadAsWritten
 mod ReadBack
 mod Refused

@@ -19,10 +19,10 @@ pub record LiesBehind (size column : ℕ) (found : ListedName) : Type 0 where
   pub further : column < found.end
   pub within : found.end ≤ size
 
-abbrev GoesOn : ℕ → ℕ → ListedName → Type 0
+abbrev pub GoesOn : ℕ → ℕ → ListedName → Type 0
 GoesOn size column found = found.goes_on ≡ true → LiesBehind size column found
 
-ends_within : (size column : ℕ) (tokens : List Lexeme) → AreOrdered size column tokens → column ≤ size
+pub ends_within : (size column : ℕ) (tokens : List Lexeme) → AreOrdered size column tokens → column ≤ size
 ends_within size column [] o = o
 ends_within size column (token ∷ tokens) o =
     let rest = ends_within size token.end tokens o.2 in
@@ -77,7 +77,7 @@ in_tokens size column (token ∷ tokens) o =
     either size column (is_name token) (after_name token tokens) (passed_over column (token ∷ tokens))
     (after size column token tokens (omega arith) o.2) (passed size column (token ∷ tokens) o)
 
-goes_on : (line : List ℕ) (column : ℕ) → GoesOn (length line) column (listed_name column (tokens_from line column))
+pub goes_on : (line : List ℕ) (column : ℕ) → GoesOn (length line) column (listed_name column (tokens_from line column))
 goes_on line column = elim (cases_lt column (length line)) [
   | inl within ↦
       in_tokens (length line) column (tokens_from line column) (tokens_from-ordered line column (omega arith))

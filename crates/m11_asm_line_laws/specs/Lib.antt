@@ -1,6 +1,7 @@
 pub mod Lists
 pub mod Refusals
 pub mod Written
+pub mod Printed
 pub mod Example
 pub mod Worked
 pub mod InstructionRows

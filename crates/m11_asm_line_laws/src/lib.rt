@@ -9,7 +9,8 @@ mod statements;
 
 pub use statements::{
     an_example_is_read_as_worked, bodies_are_read_as_they_are_written,
-    labels_are_read_as_they_are_written,
+    labels_are_read_as_they_are_written, operations_depend_on_texts_alone,
+    statements_are_read_as_they_are_written,
 };
 
 // Arguments of operators: numbers, and lists of names, formals and actuals.

@@ -18,5 +18,5 @@ mod SameLines
 mod SectionEntries
 pub mod Settling
 mod Sizes
-mod TextParts
+pub mod TextParts
 mod FirmMeanings

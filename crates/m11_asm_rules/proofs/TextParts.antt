@@ -17,12 +17,12 @@ use Rattle.m11_asm_rules.specs.Elements.{ListAt, item_before}
 use Rattle.m11_asm_rules.specs.Strings.{parts_at, parts_by, parts_within}
 
 -- if there is a part, it ends after this column
-abbrev EndsPast : ℕ → Option Part → Type 0
+abbrev pub EndsPast : ℕ → Option Part → Type 0
 EndsPast column None = Unit {0}
 EndsPast column (Some part) = column < part.end
 
 -- the column after the first few tokens of a line is within the line, and not before the column where they begin
-after_within : (size column count : ℕ) (tokens : List Lexeme) → AreOrdered size column tokens
+pub after_within : (size column count : ℕ) (tokens : List Lexeme) → AreOrdered size column tokens
     → (column ≤ column_after column (take count tokens)) × (column_after column (take count tokens) ≤ size)
 after_within size column zero [] o = (omega arith, o)
 after_within size column (suc count) [] o = (omega arith, o)
@@ -101,12 +101,12 @@ part_ends line column start is_first (byte ∷ text) is le =
     (let enclosed = delimited byte (drop (start + 1) line) in
     text_ends column (start + 1) enclosed.length enclosed.is_closed (omega arith))
 
-next_ends : (line : List ℕ) (column : ℕ) (is_first : Bool) → EndsPast column (next_part line column is_first)
+pub next_ends : (line : List ℕ) (column : ℕ) (is_first : Bool) → EndsPast column (next_part line column is_first)
 next_ends line column is_first =
     part_ends line column (next_printed line column) is_first (drop (next_printed line column) line) refl (omega arith)
 
 -- no part begins at or past the end of the line
-none_past : (line : List ℕ) (column : ℕ) (is_first : Bool) → length line ≤ column → next_part line column is_first ≡ None
+pub none_past : (line : List ℕ) (column : ℕ) (is_first : Bool) → length line ≤ column → next_part line column is_first ≡ None
 none_past line column is_first past =
     ap (λ text. part_in line (next_printed line column) is_first text) (drop_all (next_printed line column) line (omega arith))
 

@@ -13,8 +13,8 @@ pub mod Folding
 mod KeptTexts
 pub mod NamedTokens
 mod NestedBrackets
-mod NextPieces
-mod OnlyCut
+pub mod NextPieces
+pub mod OnlyCut
 pub mod OrderedTokens
 pub mod Packed
 mod Spelling
