@@ -23,8 +23,8 @@ fn definition(name: Name, is_relocatable: bool, value: u16) -> DirectoryRow
     }
 }
 
-// Whether a value of this kind belongs to a section. An absolute value belongs to the absolute section, and a register or a reference to
-// none.
+// Whether a value of this kind belongs to a section. An absolute value belongs to the absolute section; a register or a reference belongs
+// to no section.
 fn lies_in(section: Name, kind: &Kind) -> bool
     ensures { result ≡ lies_in section kind.now }
 {

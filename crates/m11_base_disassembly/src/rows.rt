@@ -72,7 +72,7 @@ pub(crate) fn is_end(form: Form<'_>, line: &[u8]) -> bool
     }
 }
 
-/// Whether the end of the text may end these lines.
+/// Whether the end of the text may end the lines that give symbols.
 pub(crate) fn may_end(form: Form<'_>) -> bool
     ensures { result ≡ (spec.rows_of form.entry).may_end }
 {

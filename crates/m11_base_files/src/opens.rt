@@ -65,7 +65,7 @@ pub trait Opens {
             ≡ keeping path.now (handed_on (Self.Output.text output) (Self.Output.held output)) (files self.old) }
         ensures counts { refusals self.new ≡ refusals self.old };
 
-    /// The seed of the maps of a run. No contract says which it is, so no result can depend on it.
+    /// The seed of the hash maps of a run. No contract says which it is, so no result can depend on it.
     fn seed(&self) -> Seed {
         Seed::fixed()
     }

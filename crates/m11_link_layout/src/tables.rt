@@ -478,7 +478,7 @@ impl Tables {
         }
     }
 
-    /// Stores the reference to a global in the target of a relocation, if there is one. Fails if memory is refused.
+    /// Stores the reference that a relocation's target makes to a global, if it makes one. Fails if memory is refused.
     pub(crate) fn add_target(&mut self, target: Target) -> Result<(), AllocError>
         ensures noted { TablesBecome self.new (with_relocated (global_of target) self.old) result }
         ensures adds { IfErr result (λ _. is_some (global_of target) ≡ true) }

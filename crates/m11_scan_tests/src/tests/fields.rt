@@ -14,7 +14,7 @@ use std::process::Abort;
 
 const LINE: &str = "L:: MOV (R1)+,@-(R2) ;X";
 
-// The mode of a field whose operand is a register, and the column of the register; none for any other field.
+// The mode of a field whose operand is a mode with a register, and the column of the register; none for any other field.
 fn mode_of(field: &Field<Expr>) -> Option<(Mode, u8)> {
     match field {
         Field::Operand(Form::InRegister(mode, Expr::Term(register))) => {
