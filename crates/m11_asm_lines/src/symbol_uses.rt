@@ -192,17 +192,17 @@ impl UsedSymbols {
     fn add_fields(&mut self, line: &Line, fields: &Fields) -> Result<(), AsmFault>
         ensures { Adds (spec.uses_of_fields (fields_model line.now.text fields.now)) self.old self.new result }
     {
-        self.add_field(line, fields.first)?;
-        self.add_field(line, fields.second)
+        self.add_field(line, &fields.first)?;
+        self.add_field(line, &fields.second)
     }
 
-    fn add_field(&mut self, line: &Line, field: Field<Expr>) -> Result<(), AsmFault>
-        ensures { Adds (spec.field_uses (field_model line.now.text field)) self.old self.new result }
+    fn add_field(&mut self, line: &Line, field: &Field<Expr>) -> Result<(), AsmFault>
+        ensures { Adds (spec.field_uses (field_model line.now.text field.now)) self.old self.new result }
     {
         match field {
             Field::Operand(form) => self.add_form(line, form),
             Field::Register(place) | Field::Target(place) | Field::Number(place) => {
-                self.read(line, place, Context::LocalOnly)
+                self.read(line, *place, Context::LocalOnly)
             }
             Field::Missing => Ok(()),
         }
@@ -210,19 +210,19 @@ impl UsedSymbols {
 
     // Adds the symbols of an operand. Its word after the code word may refer to another object; its register may not. Errors are those of
     // `add_all`.
-    fn add_form(&mut self, line: &Line, form: Form<Expr>) -> Result<(), AsmFault>
-        ensures { Adds (spec.form_uses (form_model line.now.text form)) self.old self.new result }
+    fn add_form(&mut self, line: &Line, form: &Form<Expr>) -> Result<(), AsmFault>
+        ensures { Adds (spec.form_uses (form_model line.now.text form.now)) self.old self.new result }
     {
         match form {
             Form::Absent => Ok(()),
             Form::InRegister(_, register) | Form::Unindexed(register) => {
-                self.read(line, register, Context::LocalOnly)
+                self.read(line, *register, Context::LocalOnly)
             }
             Form::Indexed(_, register, index) => {
-                self.read(line, index, Context::MayBeGlobal)?;
-                self.read(line, register, Context::LocalOnly)
+                self.read(line, *index, Context::MayBeGlobal)?;
+                self.read(line, *register, Context::LocalOnly)
             }
-            Form::AfterCounter(_, place) => self.read(line, place, Context::MayBeGlobal),
+            Form::AfterCounter(_, place) => self.read(line, *place, Context::MayBeGlobal),
         }
     }
 

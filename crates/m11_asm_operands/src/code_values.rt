@@ -20,28 +20,28 @@ fn no_value() -> Value
 }
 
 // The value of the register of a form, or 0 if the form has none.
-fn form_value(line_context: &LineContext, form: Form<Expr>) -> Value
-    ensures { quantity result ≡ spec.form_value (line_context_of line_context.now) (form_model line_context.now.line form) }
+fn form_value(line_context: &LineContext, form: &Form<Expr>) -> Value
+    ensures { quantity result ≡ spec.form_value (line_context_of line_context.now) (form_model line_context.now.line form.now) }
 {
     match form {
         Form::Absent | Form::AfterCounter(_, _) => no_value(),
-        Form::InRegister(_, register) => line_context.value(register),
-        Form::Indexed(_, register, _) => line_context.value(register),
-        Form::Unindexed(register) => line_context.value(register),
+        Form::InRegister(_, register) => line_context.value(*register),
+        Form::Indexed(_, register, _) => line_context.value(*register),
+        Form::Unindexed(register) => line_context.value(*register),
     }
 }
 
 // The value of the register, the target or the number of a field, or 0 if the field has none.
 // speed: a call would pass the value through memory.
 #[inline(always)]
-pub(crate) fn field_value(line_context: &LineContext, field: Field<Expr>) -> Value
-    ensures { quantity result ≡ spec.field_value (line_context_of line_context.now) (field_model line_context.now.line field) }
+pub(crate) fn field_value(line_context: &LineContext, field: &Field<Expr>) -> Value
+    ensures { quantity result ≡ spec.field_value (line_context_of line_context.now) (field_model line_context.now.line field.now) }
 {
     match field {
         Field::Operand(form) => form_value(line_context, form),
-        Field::Register(register) => line_context.value(register),
-        Field::Target(target) => line_context.value(target),
-        Field::Number(number) => line_context.value(number),
+        Field::Register(register) => line_context.value(*register),
+        Field::Target(target) => line_context.value(*target),
+        Field::Number(number) => line_context.value(*number),
         Field::Missing => no_value(),
     }
 }

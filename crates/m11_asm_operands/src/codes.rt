@@ -28,9 +28,9 @@ use m11_scan::ErrorFlags;
 use m11_scan_expressions::{Expr, Value};
 
 // The operand in a field with this value; R0 if the field has none.
-fn operand_in(field: Field<Expr>, value: &Value) -> Operand
-    ensures { (line_context : Stated) (line : Bytes) → quantity value.now ≡ field_value line_context (field_model line field)
-        → result ≡ spec.operand_in line_context (field_model line field) }
+fn operand_in(field: &Field<Expr>, value: &Value) -> Operand
+    ensures { (line_context : Stated) (line : Bytes) → quantity value.now ≡ field_value line_context (field_model line field.now)
+        → result ≡ spec.operand_in line_context (field_model line field.now) }
 {
     match field {
         Field::Operand(form) => operand_of(form, value),
@@ -42,9 +42,9 @@ fn operand_in(field: Field<Expr>, value: &Value) -> Operand
 }
 
 // The register in a field with this value; R0 if the field has none.
-fn register_in(field: Field<Expr>, value: &Value) -> Register
-    ensures { (line_context : Stated) (line : Bytes) → quantity value.now ≡ field_value line_context (field_model line field)
-        → result ≡ spec.register_in line_context (field_model line field) }
+fn register_in(field: &Field<Expr>, value: &Value) -> Register
+    ensures { (line_context : Stated) (line : Bytes) → quantity value.now ≡ field_value line_context (field_model line field.now)
+        → result ≡ spec.register_in line_context (field_model line field.now) }
 {
     match field {
         Field::Register(_) => register(value),
@@ -53,9 +53,9 @@ fn register_in(field: Field<Expr>, value: &Value) -> Register
 }
 
 // The offset of a branch to the target in a field with this value; 0 if the field has none.
-fn branch_in(line_context: &LineContext, field: Field<Expr>, value: &Value) -> u8
-    requires { quantity value.now ≡ field_value (line_context_of line_context.now) (field_model line_context.now.line field) }
-    ensures { result ≡ elim (field_model line_context.now.line field) [
+fn branch_in(line_context: &LineContext, field: &Field<Expr>, value: &Value) -> u8
+    requires { quantity value.now ≡ field_value (line_context_of line_context.now) (field_model line_context.now.line field.now) }
+    ensures { result ≡ elim (field_model line_context.now.line field.now) [
       | content.Target target ↦ branch_offset line_context.now.table line_context.now.location
           (expressions.value (line_context_of line_context.now).known target)
       | _ ↦ 0
@@ -68,9 +68,9 @@ fn branch_in(line_context: &LineContext, field: Field<Expr>, value: &Value) -> u
 }
 
 // The offset of SOB to the target in a field with this value; 0 if the field has none.
-fn loop_in(line_context: &LineContext, field: Field<Expr>, value: &Value) -> u8
-    requires { quantity value.now ≡ field_value (line_context_of line_context.now) (field_model line_context.now.line field) }
-    ensures offset { result ≡ elim (field_model line_context.now.line field) [
+fn loop_in(line_context: &LineContext, field: &Field<Expr>, value: &Value) -> u8
+    requires { quantity value.now ≡ field_value (line_context_of line_context.now) (field_model line_context.now.line field.now) }
+    ensures offset { result ≡ elim (field_model line_context.now.line field.now) [
       | content.Target target ↦ loop_offset line_context.now.table line_context.now.location
           (expressions.value (line_context_of line_context.now).known target)
       | _ ↦ 0
@@ -84,9 +84,9 @@ fn loop_in(line_context: &LineContext, field: Field<Expr>, value: &Value) -> u8
 }
 
 // The number in a field with this value, cut to the bits that the code has for it; 0 if the field has none.
-fn number_in(operation: NumberOp, field: Field<Expr>, value: &Value) -> u8
-    ensures number { (line_context : Stated) (line : Bytes) → quantity value.now ≡ field_value line_context (field_model line field)
-        → result ≡ elim (field_model line field) [
+fn number_in(operation: NumberOp, field: &Field<Expr>, value: &Value) -> u8
+    ensures number { (line_context : Stated) (line : Bytes) → quantity value.now ≡ field_value line_context (field_model line field.now)
+        → result ≡ elim (field_model line field.now) [
           | content.Number count ↦ expressions.number line_context.known count % encoding.number_limit operation
           | _ ↦ 0
         ] }
@@ -128,40 +128,40 @@ pub(crate) fn instruction(
         Op::Double(operation, size) => Insn::Double(
             operation,
             size,
-            operand_in(fields.first, first),
-            operand_in(fields.second, second),
+            operand_in(&fields.first, first),
+            operand_in(&fields.second, second),
         ),
         Op::Extended(operation) => Insn::Extended(
             operation,
-            register_in(fields.second, second),
-            operand_in(fields.first, first),
+            register_in(&fields.second, second),
+            operand_in(&fields.first, first),
         ),
         Op::Register(operation) => Insn::Register(
             operation,
-            register_in(fields.first, first),
-            operand_in(fields.second, second),
+            register_in(&fields.first, first),
+            operand_in(&fields.second, second),
         ),
         Op::Sob => Insn::Sob(
-            register_in(fields.first, first),
-            loop_in(line_context, fields.second, second),
+            register_in(&fields.first, first),
+            loop_in(line_context, &fields.second, second),
         ),
         Op::Single(operation, size) => {
-            Insn::Single(operation, size, operand_in(fields.first, first))
+            Insn::Single(operation, size, operand_in(&fields.first, first))
         }
-        Op::Rts => Insn::Rts(register_in(fields.first, first)),
+        Op::Rts => Insn::Rts(register_in(&fields.first, first)),
         Op::Number(operation) => {
-            Insn::Number(operation, number_in(operation, fields.first, first))
+            Insn::Number(operation, number_in(operation, &fields.first, first))
         }
         Op::Bare(operation) => Insn::Bare(operation),
         Op::Condition(_) => Insn::Bare(BareOp::Halt),
         Op::Branch(operation) => {
-            let offset = branch_in(line_context, fields.first, first);
+            let offset = branch_in(line_context, &fields.first, first);
             Insn::Branch(operation, offset.cast_signed())
         }
         Op::Call => Insn::Register(
             RegisterOp::Jsr,
             Register::Pc,
-            operand_in(fields.first, first),
+            operand_in(&fields.first, first),
         ),
         Op::Return => Insn::Rts(Register::Pc),
         Op::Codes(operation, codes) => Insn::Condition(operation, codes),
@@ -217,11 +217,11 @@ fn targeted_flags(line_context: &LineContext, operation: Op, value: &Value) -> E
 pub(crate) fn field_flags(
     line_context: &LineContext,
     operation: Op,
-    field: Field<Expr>,
+    field: &Field<Expr>,
     value: &Value,
 ) -> ErrorFlags
-    requires { quantity value.now ≡ field_value (line_context_of line_context.now) (field_model line_context.now.line field) }
-    ensures { bits_of result ≡ spec.field_flags (line_context_of line_context.now) operation (field_model line_context.now.line field) }
+    requires { quantity value.now ≡ field_value (line_context_of line_context.now) (field_model line_context.now.line field.now) }
+    ensures { bits_of result ≡ spec.field_flags (line_context_of line_context.now) operation (field_model line_context.now.line field.now) }
 {
     match field {
         Field::Operand(form) => form_flags(form, value),

@@ -198,12 +198,12 @@ fn expression(line: &Line, start: u8, at: ExprAt, field: Field<Expr>, flags: Err
 pub fn instruction_size(fields: &Fields) -> u16
     ensures { (line : Bytes) → result ≡ operand.instruction_size (spec.forms_of (fields_model line fields.now)) }
 {
-    2 + bytes_of(fields.first) + bytes_of(fields.second)
+    2 + bytes_of(&fields.first) + bytes_of(&fields.second)
 }
 
 // The number of bytes that a field has after the code word: 0 or 2.
-fn bytes_of(field: Field<Expr>) -> u16
-    ensures bytes { result ≡ bytes_in field }
+fn bytes_of(field: &Field<Expr>) -> u16
+    ensures bytes { result ≡ bytes_in field.now }
     ensures most { result ≤ 2 }
 {
     match field {

@@ -99,8 +99,8 @@ fn direct(is_deferred: bool) -> Mode
 }
 
 // The number of bytes that an operand of this form has after the code word: 0 or 2.
-pub(crate) fn size_of(form: Form<Expr>) -> u16
-    ensures size { result ≡ spec.words_of form * 2 }
+pub(crate) fn size_of(form: &Form<Expr>) -> u16
+    ensures size { result ≡ spec.words_of form.now * 2 }
     ensures most { result ≤ 2 }
 {
     match form {

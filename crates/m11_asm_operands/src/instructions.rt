@@ -45,11 +45,11 @@ fn emit_code(
     ensures { IfOk result (λ _. emission.new ≡ followed_by emission.old (codes.code (line_context_of line_context.now) operation
         (field_model line_context.now.line fields.now.first) (field_model line_context.now.line fields.now.second))) }
 {
-    let first = field_value(line_context, fields.first);
-    let second = field_value(line_context, fields.second);
+    let first = field_value(line_context, &fields.first);
+    let second = field_value(line_context, &fields.second);
     let code = encode(&instruction(line_context, operation, fields, &first, &second));
-    let flags = field_flags(line_context, operation, fields.first, &first);
-    let others = field_flags(line_context, operation, fields.second, &second);
+    let flags = field_flags(line_context, operation, &fields.first, &first);
+    let others = field_flags(line_context, operation, &fields.second, &second);
     emission.add_word(fixed(code), flags.with(others))
 }
 
@@ -59,12 +59,12 @@ fn emit_field(
     emission: &mut Emission,
     line_context: &LineContext,
     location: u16,
-    field: Field<Expr>,
+    field: &Field<Expr>,
 ) -> Result<u16, AllocError>
     ensures { IfOk result (λ next. (forms : List (Form Expression))
         → followed_by emission.new (codes.words_from (line_context_of line_context.now) next forms)
         ≡ followed_by emission.old (codes.words_from (line_context_of line_context.now) location
-        (with_form (field_model line_context.now.line field) forms))) }
+        (with_form (field_model line_context.now.line field.now) forms))) }
 {
     match field {
         Field::Operand(form) => {
@@ -85,8 +85,8 @@ fn emit_words_after(
     ensures { IfOk result (λ _. emission.new ≡ followed_by emission.old
         (codes.words_from (line_context_of line_context.now) location (forms_of (fields_model line_context.now.line fields.now)))) }
 {
-    let next = emit_field(emission, line_context, location, fields.first)?;
-    emit_field(emission, line_context, next, fields.second)?;
+    let next = emit_field(emission, line_context, location, &fields.first)?;
+    emit_field(emission, line_context, next, &fields.second)?;
     Ok(())
 }
 

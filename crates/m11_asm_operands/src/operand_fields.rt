@@ -47,23 +47,23 @@ fn operand(mode: Mode, register: Register) -> Operand
 
 // The mode and the register of a form whose register has this value; R0 for a missing operand, and PC for a form without a register of its
 // own.
-pub(crate) fn operand_of(form: Form<Expr>, value: &Value) -> Operand
-    ensures { (line_context : Stated) (line : Bytes) → quantity value.now ≡ form_value line_context (form_model line form)
-        → result ≡ spec.operand_of line_context (form_model line form) }
+pub(crate) fn operand_of(form: &Form<Expr>, value: &Value) -> Operand
+    ensures { (line_context : Stated) (line : Bytes) → quantity value.now ≡ form_value line_context (form_model line form.now)
+        → result ≡ spec.operand_of line_context (form_model line form.now) }
 {
     match form {
         Form::Absent => operand(Mode::Register, Register::R0),
-        Form::InRegister(mode, _) => operand(mode, register(value)),
-        Form::Indexed(mode, _, _) => operand(mode, register(value)),
+        Form::InRegister(mode, _) => operand(*mode, register(value)),
+        Form::Indexed(mode, _, _) => operand(*mode, register(value)),
         Form::Unindexed(_) => operand(Mode::IndexDeferred, register(value)),
-        Form::AfterCounter(mode, _) => operand(mode, Register::Pc),
+        Form::AfterCounter(mode, _) => operand(*mode, Register::Pc),
     }
 }
 
 // The flags of a form whose register has this value; none if the form has no register.
-pub(crate) fn form_flags(form: Form<Expr>, value: &Value) -> ErrorFlags
-    ensures { (line_context : Stated) (line : Bytes) → quantity value.now ≡ form_value line_context (form_model line form)
-        → bits_of result ≡ spec.form_flags line_context (form_model line form) }
+pub(crate) fn form_flags(form: &Form<Expr>, value: &Value) -> ErrorFlags
+    ensures { (line_context : Stated) (line : Bytes) → quantity value.now ≡ form_value line_context (form_model line form.now)
+        → bits_of result ≡ spec.form_flags line_context (form_model line form.now) }
 {
     match form {
         Form::Absent | Form::AfterCounter(_, _) => ErrorFlags::none(),
@@ -87,19 +87,25 @@ pub(crate) fn emit_form(
     emission: &mut Emission,
     line_context: &LineContext,
     location: u16,
-    form: Form<Expr>,
+    form: &Form<Expr>,
 ) -> Result<(), AllocError>
     ensures { IfOk result (λ _. emission.new ≡ followed_by emission.old
-        (spec.form_words (line_context_of line_context.now) location (form_model line_context.now.line form))) }
+        (spec.form_words (line_context_of line_context.now) location (form_model line_context.now.line form.now))) }
 {
     match form {
         Form::Absent | Form::InRegister(_, _) => Ok(()),
         Form::Indexed(_, _, index) => {
-            emit_reference(emission, line_context, false, location, index)
+            emit_reference(emission, line_context, false, location, *index)
         }
         Form::Unindexed(_) => emission.add_fixed_word(0),
         Form::AfterCounter(mode, number) => {
-            emit_reference(emission, line_context, is_relative(mode), location, number)
+            emit_reference(
+                emission,
+                line_context,
+                is_relative(*mode),
+                location,
+                *number,
+            )
         }
     }
 }
