@@ -4,7 +4,6 @@ mod cuts;
 mod fields;
 mod known;
 mod lines;
-mod random_lines;
 mod readers;
 mod statements;
 mod unfolding;

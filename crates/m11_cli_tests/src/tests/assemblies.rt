@@ -1,11 +1,14 @@
-//! What the tests of whole assemblies share: bytes of objects, the outputs of an assembly, the expected outputs, and the check that these
-//! two agree.
+//! What the tests of whole assemblies share: bytes of objects, assemblies with a device that fails, their outputs, the expected outputs, and
+//! the check that these two agree.
 
 mod failing;
 mod streaming;
 mod two_texts;
 
-use m11_asm::{AsmDone, AsmFault};
+use m11_asm::{AsmDone, AsmFault, asm_run};
+use m11_base::{FuseFeed, FuseSink, MemoryFeed, WriterSink};
+use m11_base_writes::Output;
+use std::alloc::Global;
 use std::process::Abort;
 use std::test::Fail;
 
@@ -34,6 +37,80 @@ pub(crate) struct Assembled {
     pub(crate) object: Vec<u8>,
     pub(crate) listing: Vec<u8>,
     pub(crate) messages: Vec<u8>,
+}
+
+// A device of an assembly: its source in one of the passes, or one of its outputs.
+#[derive(Debug, Clone, Copy, PartialEq, Eq)]
+pub(crate) enum Device {
+    First,
+    Second,
+    Output(Output),
+}
+
+// A device that fails after this number of calls, while all others work.
+#[derive(Clone, Copy)]
+pub(crate) struct Broken {
+    pub(crate) device: Device,
+    pub(crate) calls: u64,
+}
+
+// No device fails.
+pub(crate) const SOUND: Broken = Broken {
+    device: Device::First,
+    calls: u64::MAX,
+};
+
+impl Broken {
+    fn passes(self, device: Device) -> u64 {
+        if device == self.device {
+            self.calls
+        } else {
+            u64::MAX
+        }
+    }
+
+    fn feed<'a>(self, reading: Device, source: &'a str) -> FuseFeed<MemoryFeed<'a>> {
+        FuseFeed::new(MemoryFeed::new(source.as_bytes()), self.passes(reading))
+    }
+
+    fn sink<'a>(
+        self,
+        output: Output,
+        text: &'a mut Vec<u8>,
+        most: usize,
+    ) -> FuseSink<WriterSink<&'a mut Vec<u8>>> {
+        FuseSink::new(
+            WriterSink::new(text),
+            self.passes(Device::Output(output)),
+            most,
+        )
+    }
+}
+
+// Assembles the texts of the two passes with a listing and a broken device. An output accepts at most `most` bytes a call.
+pub(crate) fn assemble_texts(
+    alloc: Global,
+    texts: [&str; 2],
+    broken: Broken,
+    most: usize,
+) -> Assembled {
+    let mut object = Vec::new(alloc);
+    let mut listing = Vec::new(alloc);
+    let mut messages = Vec::new(alloc);
+    let outcome = asm_run(
+        alloc,
+        &mut [broken.feed(Device::First, texts[0])],
+        &mut [broken.feed(Device::Second, texts[1])],
+        &mut broken.sink(Output::Product, &mut object, most),
+        &mut Some(broken.sink(Output::Report, &mut listing, most)),
+        &mut broken.sink(Output::Messages, &mut messages, most),
+    );
+    Assembled {
+        outcome,
+        object,
+        listing,
+        messages,
+    }
 }
 
 // The expected outputs of an assembly without a fault: the last pieces of its object, or all of them if the listing is compared; the lines

@@ -1,4 +1,4 @@
-//! Numbers and names of faults; and the statuses and the lines of outcomes, among them many that no case of the suite has.
+//! The statuses and the lines of outcomes, which have the numbers and names of faults, among them many that no case of the suite has.
 
 use m11_asm::AsmFault;
 use m11_base::MemorySink;
@@ -13,31 +13,21 @@ use std::alloc::AllocError;
 use std::process::Abort;
 use std::test::Fail;
 
-// The faults of an assembly, each with its number, its name, its exit status, and its line.
+// Faults of an assembly, each with its exit status and its line.
 #[rattlefmt::skip]
-static ASSEMBLIES: [(AsmFault, u8, &str, u8, &str); 12] = [
-    (AsmFault::Read, 1, "Read", 3, "?M11 ASM 1 Read\n"),
-    (AsmFault::Write(Output::Product), 2, "Write", 3, "?M11 ASM 2 Write OBJECT\n"),
-    (AsmFault::Write(Output::Report), 2, "Write", 3, "?M11 ASM 2 Write LISTING\n"),
-    (AsmFault::Write(Output::Messages), 2, "Write", 3, "?M11 ASM 2 Write MESSAGES\n"),
-    (AsmFault::TooManySymbols, 3, "TooManySymbols", 6, "?M11 ASM 3 TooManySymbols\n"),
-    (AsmFault::TooManySections, 4, "TooManySections", 6, "?M11 ASM 4 TooManySections\n"),
-    (AsmFault::Unfold(UnfoldFault::TooDeep), 5, "Unfold", 6, "?M11 ASM 5 Unfold 1 TooDeep\n"),
-    (AsmFault::Unfold(UnfoldFault::TooManyLines), 5, "Unfold", 6, "?M11 ASM 5 Unfold 2 TooManyLines\n"),
-    (AsmFault::Unfold(UnfoldFault::TooMuchText), 5, "Unfold", 6, "?M11 ASM 5 Unfold 3 TooMuchText\n"),
-    (AsmFault::Unfold(UnfoldFault::TooManyMacros), 5, "Unfold", 6, "?M11 ASM 5 Unfold 4 TooManyMacros\n"),
-    (AsmFault::TooMuchSource, 6, "TooMuchSource", 6, "?M11 ASM 6 TooMuchSource\n"),
-    (AsmFault::NoMemory, 90, "NoMemory", 5, "?M11 ASM 90 NoMemory\n"),
-];
-
-// Faults of unfolding, each with its number, its name, and the fault of an assembly that it becomes.
-#[rattlefmt::skip]
-static UNFOLDINGS: [(UnfoldFault, u8, &str, AsmFault); 5] = [
-    (UnfoldFault::TooDeep, 1, "TooDeep", AsmFault::Unfold(UnfoldFault::TooDeep)),
-    (UnfoldFault::TooManyLines, 2, "TooManyLines", AsmFault::Unfold(UnfoldFault::TooManyLines)),
-    (UnfoldFault::TooMuchText, 3, "TooMuchText", AsmFault::Unfold(UnfoldFault::TooMuchText)),
-    (UnfoldFault::TooManyMacros, 4, "TooManyMacros", AsmFault::Unfold(UnfoldFault::TooManyMacros)),
-    (UnfoldFault::NoMemory, 90, "NoMemory", AsmFault::NoMemory),
+static ASSEMBLIES: [(AsmFault, u8, &str); 12] = [
+    (AsmFault::Read, 3, "?M11 ASM 1 Read\n"),
+    (AsmFault::Write(Output::Product), 3, "?M11 ASM 2 Write OBJECT\n"),
+    (AsmFault::Write(Output::Report), 3, "?M11 ASM 2 Write LISTING\n"),
+    (AsmFault::Write(Output::Messages), 3, "?M11 ASM 2 Write MESSAGES\n"),
+    (AsmFault::TooManySymbols, 6, "?M11 ASM 3 TooManySymbols\n"),
+    (AsmFault::TooManySections, 6, "?M11 ASM 4 TooManySections\n"),
+    (AsmFault::Unfold(UnfoldFault::TooDeep), 6, "?M11 ASM 5 Unfold 1 TooDeep\n"),
+    (AsmFault::Unfold(UnfoldFault::TooManyLines), 6, "?M11 ASM 5 Unfold 2 TooManyLines\n"),
+    (AsmFault::Unfold(UnfoldFault::TooMuchText), 6, "?M11 ASM 5 Unfold 3 TooMuchText\n"),
+    (AsmFault::Unfold(UnfoldFault::TooManyMacros), 6, "?M11 ASM 5 Unfold 4 TooManyMacros\n"),
+    (AsmFault::TooMuchSource, 6, "?M11 ASM 6 TooMuchSource\n"),
+    (AsmFault::NoMemory, 5, "?M11 ASM 90 NoMemory\n"),
 ];
 
 // Faults of a link, each with its exit status and its line.
@@ -56,6 +46,24 @@ static RUNS: [(SimFault, u8, &str); 3] = [
     (SimFault::Load(LoadFault::Tape(TapeFault::Failed)), 4, "?M11 SIM 7 Failed\n"),
     (SimFault::Write, 3, "?M11 SIM 11 Write MESSAGES\n"),
     (SimFault::NoMemory, 5, "?M11 SIM 90 NoMemory\n"),
+];
+
+// Faults of unfolding, each with the fault of an assembly that it becomes.
+static UNFOLDINGS: [(UnfoldFault, AsmFault); 5] = [
+    (UnfoldFault::TooDeep, AsmFault::Unfold(UnfoldFault::TooDeep)),
+    (
+        UnfoldFault::TooManyLines,
+        AsmFault::Unfold(UnfoldFault::TooManyLines),
+    ),
+    (
+        UnfoldFault::TooMuchText,
+        AsmFault::Unfold(UnfoldFault::TooMuchText),
+    ),
+    (
+        UnfoldFault::TooManyMacros,
+        AsmFault::Unfold(UnfoldFault::TooManyMacros),
+    ),
+    (UnfoldFault::NoMemory, AsmFault::NoMemory),
 ];
 
 // Checks that an outcome has this status, and that this line is written for it.
@@ -77,14 +85,12 @@ fn check(
     }
 }
 
-// Checks that each fault of an assembly has the number, name, status and line of its row.
+// Checks that each fault of an assembly has the status and line of its row.
 fn check_assemblies(
     rt: &(impl Abort + AllocGlobal),
-    rows: &[(AsmFault, u8, &str, u8, &str)],
+    rows: &[(AsmFault, u8, &str)],
 ) -> Result<(), Fail> {
-    for (fault, number, name, status, line) in rows {
-        assert_eq!(rt; fault.number(), *number, "{name}");
-        assert_eq!(rt; fault.name(), *name);
+    for (fault, status, line) in rows {
         check(rt, &Outcome::Asm(Err(*fault)), *status, line)?;
     }
     Ok(())
@@ -109,15 +115,6 @@ fn check_runs(rt: &(impl Abort + AllocGlobal), rows: &[(SimFault, u8, &str)]) ->
     Ok(())
 }
 
-// Checks that each fault of unfolding has the number and name of its row, and becomes the row's fault of an assembly.
-fn check_unfoldings(rt: &impl Abort, rows: &[(UnfoldFault, u8, &str, AsmFault)]) {
-    for (fault, number, name, wanted) in rows {
-        assert_eq!(rt; fault.number(), *number, "{name}");
-        assert_eq!(rt; fault.name(), *name);
-        assert!(rt; AsmFault::from(*fault) == *wanted, "{name}");
-    }
-}
-
 // Checks the status and the line if memory was refused while the arguments were read.
 fn check_words(rt: &(impl Abort + AllocGlobal)) {
     let mut err = MemorySink::new(rt.alloc());
@@ -131,11 +128,14 @@ fn each_outcome_has_its_status_and_line(rt: HostRuntime) -> Result<(), Fail> {
     check_assemblies(&rt, &ASSEMBLIES)?;
     check_links(&rt, &LINKS)?;
     check_runs(&rt, &RUNS)?;
-    check_unfoldings(&rt, &UNFOLDINGS);
-    assert!(rt; AsmFault::from(LineFault::Read) == AsmFault::Read);
-    assert!(rt; AsmFault::from(LineFault::TooMuchSource) == AsmFault::TooMuchSource);
-    assert!(rt; AsmFault::from(LineFault::TooManyLines) == AsmFault::TooMuchSource);
-    assert!(rt; AsmFault::from(AllocError) == AsmFault::NoMemory);
+    check(&rt, &Outcome::NotOpened, 3, "")?;
     check_words(&rt);
-    check(&rt, &Outcome::NotOpened, 3, "")
+    for (fault, wanted) in &UNFOLDINGS {
+        assert!(&rt; AsmFault::from(*fault) == *wanted);
+    }
+    assert!(&rt; AsmFault::from(LineFault::Read) == AsmFault::Read);
+    assert!(&rt; AsmFault::from(LineFault::TooMuchSource) == AsmFault::TooMuchSource);
+    assert!(&rt; AsmFault::from(LineFault::TooManyLines) == AsmFault::TooMuchSource);
+    assert!(&rt; AsmFault::from(AllocError) == AsmFault::NoMemory);
+    Ok(())
 }

@@ -1,22 +1,14 @@
 //! Assemblies in which each read and each write fails in turn, and outputs that accept nothing.
 
 use super::{
-    Assembled, DIRECTORY, END_OF_GSD, END_OF_MODULE, IN_BLANK_SECTION, TRANSFER, Wanted, left,
+    Assembled, Broken, DIRECTORY, Device, END_OF_GSD, END_OF_MODULE, IN_BLANK_SECTION, SOUND,
+    TRANSFER, Wanted, assemble_texts, left,
 };
-use m11_asm::{AsmFault, asm_run};
-use m11_base::{FuseFeed, FuseSink, MemoryFeed, WriterSink};
+use m11_asm::AsmFault;
 use m11_base_writes::Output;
 use std::alloc::Global;
 use std::process::Abort;
 use std::test::Fail;
-
-// A device of an assembly: its source in one of the passes, or one of its outputs.
-#[derive(Debug, Clone, Copy, PartialEq, Eq)]
-enum Device {
-    First,
-    Second,
-    Output(Output),
-}
 
 impl Device {
     // The fault of an assembly in which the device fails.
@@ -60,61 +52,6 @@ fn begins(found: &Assembled, whole: &Assembled) -> bool {
             .messages
             .as_slice()
             .starts_with(found.messages.as_slice())
-}
-
-// A device that fails after this number of calls, while all others work.
-#[derive(Clone, Copy)]
-struct Broken {
-    device: Device,
-    calls: u64,
-}
-
-impl Broken {
-    fn passes(self, device: Device) -> u64 {
-        if device == self.device {
-            self.calls
-        } else {
-            u64::MAX
-        }
-    }
-
-    fn feed<'a>(self, reading: Device, source: &'a str) -> FuseFeed<MemoryFeed<'a>> {
-        FuseFeed::new(MemoryFeed::new(source.as_bytes()), self.passes(reading))
-    }
-
-    fn sink<'a>(
-        self,
-        output: Output,
-        text: &'a mut Vec<u8>,
-        most: usize,
-    ) -> FuseSink<WriterSink<&'a mut Vec<u8>>> {
-        FuseSink::new(
-            WriterSink::new(text),
-            self.passes(Device::Output(output)),
-            most,
-        )
-    }
-}
-
-// Assembles a source with a broken device. An output accepts at most `most` bytes a call.
-fn assembled_broken(alloc: Global, source: &str, broken: Broken, most: usize) -> Assembled {
-    let mut object = Vec::new(alloc);
-    let mut listing = Vec::new(alloc);
-    let mut messages = Vec::new(alloc);
-    let outcome = asm_run(
-        alloc,
-        &mut [broken.feed(Device::First, source)],
-        &mut [broken.feed(Device::Second, source)],
-        &mut broken.sink(Output::Product, &mut object, most),
-        &mut Some(broken.sink(Output::Report, &mut listing, most)),
-        &mut broken.sink(Output::Messages, &mut messages, most),
-    );
-    Assembled {
-        outcome,
-        object,
-        listing,
-        messages,
-    }
 }
 
 const ONE_WORD: &str = ".WORD 1\n.END\n";
@@ -256,7 +193,7 @@ fn fails_in_turn(
     let (device, most, all) = row;
     for calls in 0..all {
         let broken = Broken { device, calls };
-        let found = assembled_broken(rt.alloc(), source, broken, most);
+        let found = assemble_texts(rt.alloc(), [source, source], broken, most);
         let shown = ended_early(rt, &found, whole, broken);
         drop(found);
         shown?;
@@ -273,7 +210,7 @@ fn devices_may_fail(
 ) -> Result<(), Fail> {
     for row in rows {
         let (device, most, calls) = *row;
-        let whole = assembled_broken(rt.alloc(), source, Broken { device, calls }, most);
+        let whole = assemble_texts(rt.alloc(), [source, source], Broken { device, calls }, most);
         let shown = fails_in_turn(rt, source, *row, wanted, &whole);
         drop(whole);
         shown?;
@@ -283,7 +220,7 @@ fn devices_may_fail(
 
 // Whether an assembly with a broken device ends with this fault and writes nothing.
 fn leaves_nothing(alloc: Global, broken: Broken, most: usize, fault: AsmFault) -> bool {
-    let found = assembled_broken(alloc, ONE_WORD, broken, most);
+    let found = assemble_texts(alloc, [ONE_WORD, ONE_WORD], broken, most);
     let shown = found.outcome == Err(fault) && is_empty(&found);
     drop(found);
     shown
@@ -298,12 +235,8 @@ fn each_read_and_each_write_may_fail(rt: HostRuntime) -> Result<(), Fail> {
         device: Device::Second,
         calls: 0,
     };
-    let none = Broken {
-        device: Device::First,
-        calls: u64::MAX,
-    };
     let product = AsmFault::Write(Output::Product);
     assert!(rt; leaves_nothing(rt.alloc(), second, 512, AsmFault::Read));
-    assert!(rt; leaves_nothing(rt.alloc(), none, 0, product));
+    assert!(rt; leaves_nothing(rt.alloc(), SOUND, 0, product));
     Ok(())
 }

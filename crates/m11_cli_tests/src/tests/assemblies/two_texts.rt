@@ -2,11 +2,10 @@
 //! Sections of the two texts are the same if their names are. The flags of `.END` that don't depend on names are those of the second text.
 
 use super::{
-    Assembled, DIRECTORY, END_OF_GSD, END_OF_MODULE, IN_BLANK_SECTION, TRANSFER, Wanted, left,
+    DIRECTORY, END_OF_GSD, END_OF_MODULE, IN_BLANK_SECTION, SOUND, TRANSFER, Wanted,
+    assemble_texts, left,
 };
-use m11_asm::asm_run;
-use m11_base::{MemoryFeed, WriterSink};
-use std::alloc::Global;
+use m11_asm::AsmFault;
 use std::process::Abort;
 use std::test::Fail;
 
@@ -121,7 +120,7 @@ const IN_Q: &[&[u8]] = &[
 const END: &[&[u8]] = &[END_OF_MODULE];
 
 #[rattlefmt::skip]
-static ROWS: [Row; 15] = [
+static ROWS: [Row; 20] = [
     ELSEWHERE,
     LOCAL_ELSEWHERE,
     UNMET,
@@ -135,7 +134,14 @@ static ROWS: [Row; 15] = [
     (".PSECT P\nA: NOP\n.END\n", ".PSECT Z\n.PSECT P\nA: NOP\n.END\n", END, &[], &["ERRORS DETECTED: 0"]),
     // a label in another absolute section
     (".ASECT\nA: NOP\n.END\n", ".PSECT Z,ABS\nA: NOP\n.END\n", END, &[], &["P 2: A: NOP", "ERRORS DETECTED: 1"]),
+    // a label at the same location of another section
+    (".PSECT X\nA: NOP\n.END\n", "A: NOP\n.END\n", END, &[], &["P 1: A: NOP", "ERRORS DETECTED: 1"]),
+    (".ASECT\nA: NOP\n.END\n", "A: NOP\n.END\n", END, &[], &["P 1: A: NOP", "ERRORS DETECTED: 1"]),
+    // a label that the first text doesn't define, and one of two labels of a line
+    ("NOP\n.END\n", "A: NOP\n.END\n", END, &[], &["P 1: A: NOP", "ERRORS DETECTED: 1"]),
+    ("A: NOP\nB:\n.END\n", "A: B: NOP\n.END\n", END, &[], &["P 1: A: B: NOP", "ERRORS DETECTED: 1"]),
     // a label whose name is only assigned in the first text
+    ("A=0\n.END\n", "A: NOP\n.END\n", END, &[], &["P 1: A: NOP", "ERRORS DETECTED: 1"]),
     ("A=5\n.END\n", ".ASECT\n.=5\nA: .BYTE 1\n.END\n", END, &[], &["P 3: A: .BYTE 1", "ERRORS DETECTED: 1"]),
     // flags of `.END` that don't depend on names: a digit that isn't octal, and a missing operand
     (".END 10\n", ".END 18\n", END, &[], &["N 1: .END 18", "ERRORS DETECTED: 1"]),
@@ -146,27 +152,6 @@ static ROWS: [Row; 15] = [
     (".END R1*R1\n", ".END Q\n", END, &[], &["R 1: .END Q", "ERRORS DETECTED: 1"]),
 ];
 
-// Assembles the texts of two passes, with a listing.
-fn assembled_from(alloc: Global, first: &str, second: &str) -> Assembled {
-    let mut object = Vec::new(alloc);
-    let mut listing = Vec::new(alloc);
-    let mut messages = Vec::new(alloc);
-    let outcome = asm_run(
-        alloc,
-        &mut [MemoryFeed::new(first.as_bytes())],
-        &mut [MemoryFeed::new(second.as_bytes())],
-        &mut WriterSink::new(&mut object),
-        &mut Some(WriterSink::new(&mut listing)),
-        &mut WriterSink::new(&mut messages),
-    );
-    Assembled {
-        outcome,
-        object,
-        listing,
-        messages,
-    }
-}
-
 // Checks that the outputs of each row are the expected ones.
 fn leave_what_is_wanted(rt: &(impl Abort + AllocGlobal), rows: &[Row]) -> Result<(), Fail> {
     for row in rows {
@@ -176,7 +161,7 @@ fn leave_what_is_wanted(rt: &(impl Abort + AllocGlobal), rows: &[Row]) -> Result
             listed,
             reported,
         };
-        let found = assembled_from(rt.alloc(), first, second);
+        let found = assemble_texts(rt.alloc(), [first, second], SOUND, usize::MAX);
         let shown = left(rt, second, &found, wanted);
         drop(found);
         shown?;
@@ -187,4 +172,28 @@ fn leave_what_is_wanted(rt: &(impl Abort + AllocGlobal), rows: &[Row]) -> Result
 #[test]
 fn the_second_text_is_written_under_what_the_first_one_gave(rt: HostRuntime) -> Result<(), Fail> {
     leave_what_is_wanted(&rt, &ROWS)
+}
+
+// A text that follows 4,096 definitions in a second pass, whose first pass has no lines; and the fault of the assembly, if it has one.
+static DEFINITIONS: [(&str, Option<AsmFault>); 3] = [
+    // names that are only used, or defined again
+    (".WORD Y,Z\nA7776: X=1\n.END\n", None),
+    ("Y:\n.END\n", Some(AsmFault::TooManySymbols)),
+    ("Y=1\n.END\n", Some(AsmFault::TooManySymbols)),
+];
+
+// 4,096 definitions: each of the 4,095 rounds defines a name, and X is one more.
+const ROUNDS: &str = ".MACRO DEFINE N\nA'N=0\n.ENDM\nX=0\n.REPT 7777\nDEFINE \\X\nX=X+1\n.ENDR\n";
+
+#[test]
+fn a_second_pass_has_4096_definitions(rt: HostRuntime) -> Result<(), Fail> {
+    for (rest, fault) in &DEFINITIONS {
+        let text = format!(in rt.alloc(); "{ROUNDS}{rest}")?;
+        let found = assemble_texts(rt.alloc(), ["", text.as_str()], SOUND, usize::MAX);
+        drop(text);
+        let outcome = found.outcome;
+        drop(found);
+        assert_eq!(&rt; outcome.err(), *fault, "{rest}");
+    }
+    Ok(())
 }

@@ -1,21 +1,15 @@
 //! Links in which each feed and each output fails in turn, with outputs that accept many bytes a call or only one; and a link whose
 //! outputs accept none.
 
-use super::{DEFINES_F, FIRST_OF_F, Linked, MAP_OF_F, NO_START, READS_F, Wanted, done};
-use m11_base::{FuseFeed, FuseSink, MemoryFeed, WriterSink};
+use super::{
+    Broken, DEFINES_F, Device, FIRST_OF_F, Linked, MAP_OF_F, NO_START, READS_F, SOUND, Wanted,
+    done, linked_broken,
+};
 use m11_base_writes::Output;
-use m11_link::{LinkFault, link_run};
+use m11_link::LinkFault;
 use std::alloc::Global;
 use std::process::Abort;
 use std::test::Fail;
-
-// A feed of one of the two passes, or an output.
-#[derive(Debug, Clone, Copy, PartialEq, Eq)]
-enum Device {
-    // A feed by its index: two of the first pass, and then two of the second.
-    Feed(usize),
-    Output(Output),
-}
 
 impl Device {
     // The fault of a link in which the device fails.
@@ -24,62 +18,6 @@ impl Device {
             Device::Feed(_) => LinkFault::Read,
             Device::Output(output) => LinkFault::Write(output),
         }
-    }
-}
-
-// A device that fails after this number of calls, while all others work.
-#[derive(Clone, Copy)]
-struct Broken {
-    device: Device,
-    calls: u64,
-}
-
-impl Broken {
-    fn passes(self, device: Device) -> u64 {
-        if device == self.device {
-            self.calls
-        } else {
-            u64::MAX
-        }
-    }
-
-    fn feed<'a>(self, index: usize, bytes: &'a [u8]) -> FuseFeed<MemoryFeed<'a>> {
-        FuseFeed::new(MemoryFeed::new(bytes), self.passes(Device::Feed(index)))
-    }
-
-    fn sink<'a>(
-        self,
-        output: Output,
-        text: &'a mut Vec<u8>,
-        most: usize,
-    ) -> FuseSink<WriterSink<&'a mut Vec<u8>>> {
-        FuseSink::new(
-            WriterSink::new(text),
-            self.passes(Device::Output(output)),
-            most,
-        )
-    }
-}
-
-// Links two files with a broken device. An output accepts at most `most` bytes a call.
-fn linked_broken(alloc: Global, files: [&[u8]; 2], broken: Broken, most: usize) -> Linked {
-    let mut tape = Vec::new(alloc);
-    let mut map = Vec::new(alloc);
-    let mut messages = Vec::new(alloc);
-    let outcome = link_run(
-        alloc,
-        &mut [broken.feed(0, files[0]), broken.feed(1, files[1])],
-        &mut [broken.feed(2, files[0]), broken.feed(3, files[1])],
-        0o1000,
-        &mut broken.sink(Output::Product, &mut tape, most),
-        &mut Some(broken.sink(Output::Report, &mut map, most)),
-        &mut broken.sink(Output::Messages, &mut messages, most),
-    );
-    Linked {
-        outcome,
-        tape,
-        map,
-        messages,
     }
 }
 
@@ -270,12 +208,8 @@ fn devices_may_fail(
     rows: &[Failing],
 ) -> Result<(), Fail> {
     for row in rows {
-        let (device, most) = *row;
-        let sound = Broken {
-            device,
-            calls: u64::MAX,
-        };
-        let whole = linked_broken(rt.alloc(), files, sound, most);
+        let (_, most) = *row;
+        let whole = linked_broken(rt.alloc(), files, SOUND, most);
         let shown = fails_in_turn(rt, files, *row, wanted, &whole);
         drop(whole);
         shown?;
@@ -285,11 +219,7 @@ fn devices_may_fail(
 
 // Whether a link whose outputs accept no byte fails at its first write, that of the map's first line.
 fn fails_at_once(alloc: Global) -> bool {
-    let whole = Broken {
-        device: Device::Feed(0),
-        calls: u64::MAX,
-    };
-    let linked = linked_broken(alloc, [READS_F, DEFINES_F], whole, 0);
+    let linked = linked_broken(alloc, [READS_F, DEFINES_F], SOUND, 0);
     let nothing = Wanted {
         tape: &[],
         map: &[],

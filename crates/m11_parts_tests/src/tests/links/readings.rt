@@ -1,9 +1,11 @@
 //! Links that no command line asks for: with other objects in the second pass, with odd bottoms and bottoms above octal 157776, and
 //! without files. Bases, values and first attributes are those of the first pass.
 
-use super::{DEFINES_F, FIRST_OF_F, Linked, MAP_OF_F, NO_START, READS_F, Wanted, done};
-use m11_base::{MemoryFeed, WriterSink};
-use m11_link::{LinkFault, link_run};
+use super::{
+    DEFINES_F, FIRST_OF_F, Linked, MAP_OF_F, NO_START, READS_F, SOUND, Wanted, done, link_feeds,
+};
+use m11_base::{FuseFeed, MemoryFeed};
+use m11_link::LinkFault;
 use m11_obj::BlockFault;
 use std::alloc::{AllocError, Global};
 use std::process::Abort;
@@ -216,39 +218,15 @@ static ROWS: [Row<'static>; 6] = [
 ];
 
 // A feed for each file.
-fn feeds_of<'a>(alloc: Global, files: Files<'a>) -> Result<Vec<MemoryFeed<'a>>, AllocError> {
+fn feeds_of<'a>(
+    alloc: Global,
+    files: Files<'a>,
+) -> Result<Vec<FuseFeed<MemoryFeed<'a>>>, AllocError> {
     let mut feeds = Vec::new(alloc);
     for file in files {
-        feeds.push(MemoryFeed::new(*file))?;
+        feeds.push(SOUND.feed(0, file))?;
     }
     Ok(feeds)
-}
-
-// Links the feeds of two passes, with a map, into outputs that never fail.
-fn linked_feeds<'a>(
-    alloc: Global,
-    first: &mut [MemoryFeed<'a>],
-    second: &mut [MemoryFeed<'a>],
-    bottom: u16,
-) -> Linked {
-    let mut tape = Vec::new(alloc);
-    let mut map = Vec::new(alloc);
-    let mut messages = Vec::new(alloc);
-    let outcome = link_run(
-        alloc,
-        first,
-        second,
-        bottom,
-        &mut WriterSink::new(&mut tape),
-        &mut Some(WriterSink::new(&mut map)),
-        &mut WriterSink::new(&mut messages),
-    );
-    Linked {
-        outcome,
-        tape,
-        map,
-        messages,
-    }
 }
 
 // Checks that a link ended as its row says. If memory was refused, the test fails, and nothing more is checked.
@@ -271,11 +249,13 @@ fn all_end(rt: &(impl Abort + AllocGlobal), rows: &[Row<'_>]) -> Result<(), Fail
     for row in rows {
         let mut first = feeds_of(rt.alloc(), row.first)?;
         let mut second = feeds_of(rt.alloc(), row.second)?;
-        let linked = linked_feeds(
+        let linked = link_feeds(
             rt.alloc(),
             first.as_mut_slice(),
             second.as_mut_slice(),
             row.bottom,
+            SOUND,
+            usize::MAX,
         );
         let shown = ended(rt, *row, &linked);
         drop(linked);

@@ -4,8 +4,12 @@ mod blocks;
 mod devices;
 mod instructions;
 mod links;
+mod listings;
+mod loading;
 mod names;
 mod records;
+mod steps;
+mod texts;
 
 use std::fmt::{Debug, Display};
 use std::process::Abort;

@@ -1,10 +1,13 @@
-//! Shared by the tests of whole links: two objects, and the outputs of a link.
+//! Shared by the tests of whole links: two objects, links with a device that fails, and their outputs.
 
 mod failing;
 mod readings;
 mod streaming;
 
-use m11_link::{LinkDone, LinkFault};
+use m11_base::{FuseFeed, FuseSink, MemoryFeed, WriterSink};
+use m11_base_writes::Output;
+use m11_link::{LinkDone, LinkFault, link_run};
+use std::alloc::Global;
 
 // A module with the instruction MOV F,R0 and a byte.
 #[rattlefmt::skip]
@@ -120,6 +123,100 @@ impl Linked {
             && has_lines(self.map.as_slice(), wanted.map)
             && has_lines(self.messages.as_slice(), wanted.reported)
     }
+}
+
+// A feed of one of the two passes, or an output.
+#[derive(Debug, Clone, Copy, PartialEq, Eq)]
+pub(crate) enum Device {
+    // A feed by its index: two of the first pass, and then two of the second.
+    Feed(usize),
+    Output(Output),
+}
+
+// A device that fails after this number of calls, while all others work.
+#[derive(Clone, Copy)]
+pub(crate) struct Broken {
+    pub(crate) device: Device,
+    pub(crate) calls: u64,
+}
+
+// No device fails.
+pub(crate) const SOUND: Broken = Broken {
+    device: Device::Feed(0),
+    calls: u64::MAX,
+};
+
+impl Broken {
+    fn passes(self, device: Device) -> u64 {
+        if device == self.device {
+            self.calls
+        } else {
+            u64::MAX
+        }
+    }
+
+    pub(crate) fn feed<'a>(self, index: usize, bytes: &'a [u8]) -> FuseFeed<MemoryFeed<'a>> {
+        FuseFeed::new(MemoryFeed::new(bytes), self.passes(Device::Feed(index)))
+    }
+
+    fn sink<'a>(
+        self,
+        output: Output,
+        text: &'a mut Vec<u8>,
+        most: usize,
+    ) -> FuseSink<WriterSink<&'a mut Vec<u8>>> {
+        FuseSink::new(
+            WriterSink::new(text),
+            self.passes(Device::Output(output)),
+            most,
+        )
+    }
+}
+
+// Links the feeds of two passes, with a map. If the broken device is an output, it fails. An output accepts at most `most` bytes a call.
+pub(crate) fn link_feeds<'a>(
+    alloc: Global,
+    first: &mut [FuseFeed<MemoryFeed<'a>>],
+    second: &mut [FuseFeed<MemoryFeed<'a>>],
+    bottom: u16,
+    broken: Broken,
+    most: usize,
+) -> Linked {
+    let mut tape = Vec::new(alloc);
+    let mut map = Vec::new(alloc);
+    let mut messages = Vec::new(alloc);
+    let outcome = link_run(
+        alloc,
+        first,
+        second,
+        bottom,
+        &mut broken.sink(Output::Product, &mut tape, most),
+        &mut Some(broken.sink(Output::Report, &mut map, most)),
+        &mut broken.sink(Output::Messages, &mut messages, most),
+    );
+    Linked {
+        outcome,
+        tape,
+        map,
+        messages,
+    }
+}
+
+// Links two files at octal 1000, with a map and a broken device. An output accepts at most `most` bytes a call.
+pub(crate) fn linked_broken(
+    alloc: Global,
+    files: [&[u8]; 2],
+    broken: Broken,
+    most: usize,
+) -> Linked {
+    link_feeds(
+        alloc,
+        &mut [broken.feed(0, files[0]), broken.feed(1, files[1])],
+        &mut [broken.feed(2, files[0]), broken.feed(3, files[1])],
+        0o1000,
+        broken,
+        most,
+    )
 }
 
 // The bytes after these pieces, if a text begins with them.

@@ -1,4 +1,0 @@
-//! Loads of tapes, and calls on machines.
-
-mod loading;
-mod steps;
