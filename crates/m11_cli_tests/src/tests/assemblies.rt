@@ -1,5 +1,5 @@
-//! What the tests of whole assemblies share: bytes of objects, assemblies with a device that fails, their outputs, the expected outputs, and
-//! the check that these two agree.
+//! What the tests of whole assemblies share: bytes of objects, assemblies with a device that fails, their outputs, the expected outputs,
+//! and the check that these two agree.
 
 mod failing;
 mod streaming;

@@ -7,8 +7,8 @@ use m11_scan::Line;
 use m11_unfold::{Step, Unfolder};
 use m11_unfold_rules::{UnfoldFault, operator};
 
-// Unfolds what is left, and counts the live lines that don't belong to unfolding. Returns whether the next line of the source is needed: false
-// if `.END` became live, or after 300,000 steps. Error: the fault of the unfolder.
+// Unfolds what is left, and counts the live lines that don't belong to unfolding. Returns whether the next line of the source is needed:
+// false if `.END` became live, or after 300,000 steps. Error: the fault of the unfolder.
 fn take_rest(unfolder: &mut Unfolder, live: &mut u32) -> Result<bool, UnfoldFault>
     ensures { result ≡ Ok true → unfolder.new.stage.left ≡ [] }
 {

@@ -1,5 +1,5 @@
-//! The object and the listing while the second pass goes on: the pass's source fails after each line, and what was written is complete up to
-//! there.
+//! The object and the listing while the second pass goes on: the pass's source fails after each line, and what was written is complete up
+//! to there.
 
 use super::{Broken, Device, assemble_texts};
 use m11_asm::{AsmFault, First};
@@ -9,9 +9,9 @@ use std::test::Fail;
 // The number of bytes up to the end of a line, and the lengths in bytes of the object and the listing that are then written.
 type Growing = &'static [(u64, usize, usize)];
 
-// Texts, each with a row for each line; at the end of the last line the whole is written. A line of a listing has 42 characters before its
-// text, a further line of three items has 40 characters, and each ends with a line feed. After all lines come 105 bytes, and a line for each
-// name.
+// Texts, each with a row for each line; at the end of the last line the whole is written. A line of a listing has 42 characters before
+// its text, a further line of three items has 40 characters, and each ends with a line feed. After all lines come 105 bytes, and a line for
+// each name.
 #[rattlefmt::skip]
 static GROWING: [(&str, Growing); 3] = [
     // a text of the object is full, and is written when the next byte comes; ten further lines have the items after the third

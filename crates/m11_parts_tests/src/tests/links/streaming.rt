@@ -5,8 +5,8 @@ use m11_link::{Layout, LinkFault};
 use std::alloc::Global;
 use std::test::Fail;
 
-// A feed of the second pass, the number of bytes up to the end of a block, and the length of the tape then. Each text is held until the next
-// one comes, and the last one of a module until the module's end.
+// A feed of the second pass, the number of bytes up to the end of a block, and the length of the tape then. Each text is held until the
+// next one comes, and the last one of a module until the module's end.
 #[rattlefmt::skip]
 static GROWING: [(usize, u64, usize); 16] = [
     (2, 55, 0), (2, 62, 0), (2, 77, 0), (2, 91, 0), (2, 104, 0), (2, 111, 12),
