@@ -11,8 +11,14 @@ mod records;
 mod steps;
 mod texts;
 
+use m11_base::Name;
 use std::fmt::{Debug, Display};
 use std::process::Abort;
+use std::test::Fail;
+
+pub(crate) fn name(characters: &[u8; 6]) -> Result<Name, Fail> {
+    Ok(Name::pack(characters).ok_or("characters with codes")?)
+}
 
 // Checks that the result for a row of a table is the expected one.
 pub(crate) fn same<T: PartialEq + Debug>(rt: &impl Abort, row: &impl Display, got: &T, wanted: &T) {

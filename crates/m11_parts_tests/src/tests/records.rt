@@ -1,14 +1,9 @@
 //! Records and their relocations, written and read. (RT-11 Volume and File Formats Manual, "Object file format".)
 
-use super::{equal, same};
-use m11_base::Name;
+use super::{equal, name, same};
 use m11_obj::{Block, GsdEntry, GsdKind, Record, Relocation, Target, read_record, record_bytes};
 use std::process::Abort;
 use std::test::Fail;
-
-fn name(characters: &[u8; 6]) -> Result<Name, Fail> {
-    Ok(Name::pack(characters).ok_or("characters with codes")?)
-}
 
 // A block with these bytes as its content, at most 512.
 fn block(rt: &impl Abort, bytes: &[u8]) -> Block {

@@ -1,6 +1,7 @@
 //! Each kind of relocation but `Fixed`, in words and in bytes, with the constants 3 and 0; and directories shorter than those of sources.
 //! (RT-11 Volume and File Formats Manual, "Object file format", RLD block and GSD block.)
 
+use super::name;
 use m11_base::Name;
 use m11_obj::{
     Block, DirectoryRow, OpenDirectory, OpenText, Piece, PieceContent, RelocationKind,
@@ -8,10 +9,6 @@ use m11_obj::{
 };
 use std::alloc::{AllocError, Global};
 use std::test::Fail;
-
-fn name(characters: &[u8; 6]) -> Result<Name, Fail> {
-    Ok(Name::pack(characters).ok_or("characters with codes")?)
-}
 
 fn word(section: Name, location: u16, constant: u16, kind: RelocationKind) -> Piece {
     Piece {
