@@ -1,6 +1,6 @@
 -- Formals and actuals are read one after another.
 use Rattle.std.proofs.Common.{◌≡◌, ℕ, zero, suc, ◌+◌, ◌<◌, ◌≤◌, Bool, true, false, List, [], ◌∷◌, ◌++◌, length, map, take, drop, Option, Some, None, refl, sym, ap, ◌∙◌, subst, arith, inl, inr}
-use Rattle.std.specs.Prelude.{◌-◌, ◌==◌, ◌&&◌, ◌||◌, if◌then◌else◌, nat_le, not}
+use Rattle.std.specs.Prelude.{◌⊎◌, ◌-◌, ◌==◌, ◌&&◌, ◌||◌, if◌then◌else◌, nat_le, not}
 use Rattle.std.specs.List.{prefix_len}
 use Rattle.std.proofs.lemmas.Bool.{cases_lt, eqb-true}
 use Rattle.std.proofs.lemmas.List.{drop-drop, drop_all, length-drop}
@@ -33,9 +33,10 @@ use Rattle.m11_scan_statements.specs.declared.actuals.ActualKind.TheVariants.{Ba
 use Rattle.m11_scan_statements.specs.declared.formals.Formal.{Formal}
 use Rattle.m11_scan_statements.specs.declared.formals.NextFormal.{NextFormal}
 use Rattle.m11_scan_statements.specs.declared.formals.NextFormal.TheVariants.{Bad, Ends, Named}
-use Rattle.m11_asm_line_laws.specs.Lists.{AreActuals, AreFormals}
+use Rattle.m11_asm_line_laws.specs.Lists.{AreActuals, AreFormals, IsOver}
 use Rattle.m11_asm_line_laws.specs.Lists.AreActuals.{NoActual, OneActual}
 use Rattle.m11_asm_line_laws.specs.Lists.AreFormals.{NoFormal, OneFormal}
+use Rattle.m11_asm_line_laws.specs.Printed.{AreBlanks}
 
 -- ---- past the end of a line
 
@@ -276,6 +277,56 @@ all_actuals known line zero column past =
 all_actuals known line (suc wanted) column past =
     by_actual known line wanted column (λ next lt. all_actuals known line wanted next (omega arith))
     (next_actual line column true) refl (next_goes line column)
+
+-- ---- the end of a list of actuals
+
+-- the blanks and tabs that a text begins with
+abbrev Led : List ℕ → Type 0
+Led text = (blanks : List ℕ) × (text ≡ blanks ++ drop (prefix_len is_blank text) text) × AreBlanks blanks
+
+led_by : (byte : ℕ) (text : List ℕ) (blank : Bool) → is_blank byte ≡ blank → Led text → Led (byte ∷ text)
+led_by byte text true is led =
+    let count : prefix_len is_blank (byte ∷ text) ≡ suc (prefix_len is_blank text) = omega (arith, prefix-true is_blank byte text is) in (
+      byte ∷ led.0,
+      ap (λ (t : List ℕ). byte ∷ t) led.1 ∙ sym (ap (λ (n : ℕ). (byte ∷ led.0) ++ drop n (byte ∷ text)) count),
+      (is, led.2),
+    )
+led_by byte text false is led = ([], sym (ap (λ (n : ℕ). drop n (byte ∷ text)) (prefix-false is_blank byte text is)), tt)
+
+led : (text : List ℕ) → Led text
+led [] = ([], refl, tt)
+led (byte ∷ text) = led_by byte text (is_blank byte) refl (led text)
+
+-- without an actual in it, this text is empty or a comment
+comment_or : (byte : ℕ) (text : List ℕ) (is_comment is_bracket is_digits : Bool) (enclosed digits bare : Actual) → (byte == 0o73) ≡ is_comment
+    → (if is_comment then None else (if is_bracket then Some enclosed else (if is_digits then Some digits else Some bare))) ≡ None
+    → (comment : List ℕ) × (byte ∷ text ≡ 0o73 ∷ comment)
+comment_or byte text true is_bracket is_digits enclosed digits bare is none =
+    (text, ap (λ (b : ℕ). b ∷ text) (eqb-true byte 0o73 is))
+comment_or byte text false true is_digits enclosed digits bare is none = absurd cc
+comment_or byte text false false true enclosed digits bare is none = absurd cc
+comment_or byte text false false false enclosed digits bare is none = absurd cc
+
+over_at : (line : List ℕ) (start : ℕ) (allows_digits : Bool) (text : List ℕ) → actual_in line start allows_digits text ≡ None
+    → (text ≡ []) ⊎ ((comment : List ℕ) × (text ≡ 0o73 ∷ comment))
+over_at line start allows_digits [] none = inl refl
+over_at line start allows_digits (byte ∷ text) none =
+    inr (comment_or byte text (byte == 0o73) (byte == 0o74) (byte == 0o134 && allows_digits)
+    (bracketed_actual line (start + 1)) (digits_actual line (start + 1)) (bare_actual line start) refl none)
+
+pub actuals_over : (line : Bytes) (column : ℕ) (allows_digits : Bool) → next_actual line column allows_digits ≡ None
+    → IsOver (drop column line)
+actuals_over line column allows_digits none =
+    let front = led (drop column line) in
+    let count = prefix_len is_blank (drop column line) in (
+      front.0,
+      drop (after_blanks line column) line,
+      front.1 ∙ ap (λ (t : List ℕ). front.0 ++ t) (drop-drop count column line),
+      front.2,
+      over_at line (after_blanks line column) allows_digits (drop (after_blanks line column) line) none,
+    )
+
+-- ---- the first actuals
 
 -- an actual has one text
 pub record HasOne (given : ActualTexts) : Type 0 where

@@ -1,6 +1,6 @@
 -- Lists of formals, of actuals and of names, as written. (MACRO-11 Language Reference Manual, "Arguments in macro definitions and macro
 -- calls" and ".GLOBL directive".)
-use Rattle.std.specs.Prelude.{◌≡◌, ℕ, true, false, List, [], ◌∷◌, Option, Some, None}
+use Rattle.std.specs.Prelude.{◌≡◌, ◌⊎◌, ℕ, true, false, List, [], ◌∷◌, ◌++◌, Option, Some, None}
 use Rattle.std.specs.Int.RustNames.{bit_or}
 use Rattle.m11_unfold_rules.specs.Actuals.{ActualTexts, followed_by, given_by, no_actual_texts}
 use Rattle.m11_scan_expressions.specs.Expressions.{KnownSymbols}
@@ -14,6 +14,7 @@ use Rattle.m11_scan_statements.specs.Listed.{listed_name}
 use Rattle.m11_scan_statements.specs.declared.actuals.Actual.{Actual}
 use Rattle.m11_scan_statements.specs.declared.listed.ListedName.{ListedName}
 use Rattle.m11_scan_statements.specs.declared.spans.Span.{Span}
+use Rattle.m11_asm_line_laws.specs.Printed.{AreBlanks}
 
 -- these are the formals that follow a column, with the flags of their list; blanks, a comma or both may come before each
 pub data AreFormals (line : Bytes) : ℕ → List MacroFormal → ℕ → Type 0 where
@@ -33,6 +34,11 @@ pub data AreActuals (known : KnownSymbols) (line : Bytes) : ℕ → ActualTexts 
   OneActual : (column : ℕ) (actual : Actual) (more : ActualTexts) → next_actual line column true ≡ Some actual
       → AreActuals known line (separator_at line actual.end).end more
       → AreActuals known line column (followed_by (given_by known line actual) more)
+
+-- blanks and tabs, if any, and then nothing or a comment
+abbrev pub IsOver : Bytes → Type 0
+IsOver text = (blanks rest : Bytes) × (text ≡ blanks ++ rest) × AreBlanks blanks
+    × ((rest ≡ []) ⊎ ((comment : Bytes) × (rest ≡ 0o73 ∷ comment)))
 
 -- these are the elements of the list of names that begins at a column, and the column after them; `None` is an element that isn't a name
 pub data AreNames (line : Bytes) : ℕ → List (Option Span) → ℕ → Type 0 where
