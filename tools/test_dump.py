@@ -274,6 +274,8 @@ CASES = (
     ("a library that ends before its modules", "A.OBJ", {"A.OBJ": HEADER}, 4, "LIBRARY A.OBJ\n", f"?M11 DUMP 5 BadOrder IN BLOCK 1 AT BYTE {len(HEADER)} OF A.OBJ\n"),
     ("a module of a library without its end", "A.OBJ", {"A.OBJ": HEADER + DIRECTORY + LAST}, 4, "LIBRARY A.OBJ\n" + SHOWN,
      f"?M11 DUMP 5 BadOrder IN BLOCK 2 AT BYTE {len(HEADER) + len(DIRECTORY) + 4} OF A.OBJ\n"),
+    ("a module of a library without its end, before another", "A.OBJ", {"A.OBJ": HEADER + DIRECTORY + PLAIN + LAST}, 4, "LIBRARY A.OBJ\n" + SHOWN,
+     f"?M11 DUMP 5 BadOrder IN BLOCK 2 AT BYTE {len(HEADER) + len(DIRECTORY) + 4} OF A.OBJ\n"),
     ("a module of a library without its name", "A.OBJ", {"A.OBJ": HEADER + PLAIN + block(word(1) + entry("A", 0o50, 4, 0)) + REST + LAST}, 4,
      "LIBRARY A.OBJ\n" + SHOWN_PLAIN, f"?M11 DUMP 5 BadOrder IN BLOCK 6 AT BYTE {len(HEADER) + len(PLAIN) + 4} OF A.OBJ\n"),
     ("a directory in a library with an entry of no type", "A.OBJ", {"A.OBJ": HEADER + block(word(1) + entry("A", 0, 0, 0) + entry("B", 0, 9, 0))}, 4,

@@ -74,7 +74,10 @@ def module_at(content, begin):
     """The module that begins at a place, and the place behind it."""
     at, entries, kind = begin, b"", NAMES
     while kind != END_OF_MODULE:
-        kind, held, at = block_at(content, after_zeros(content, at))
+        place = after_zeros(content, at)
+        kind, held, at = block_at(content, place)
+        if place > begin and kind == NAMES and len(held) >= ENTRY and held[5] == MODULE:
+            raise Malformed(f"another module begins at byte {place}, within a module")
         entries += held[:len(held) // ENTRY * ENTRY] if kind == NAMES else b""
     rows = [(name_at(entries, place), entries[place + 4], entries[place + 5]) for place in range(0, len(entries), ENTRY)]
     if not rows or rows[0][2] != MODULE:

@@ -147,6 +147,7 @@ def check_damaged_objects():
                 (object_library([one, two], b""), f"no block begins at byte {3 * BLOCK}, and the library hasn't ended"),
                 (object_library([one, b"\2" + two]), f"no block begins at byte {header + len(one)}, and the library hasn't ended"),
                 (object_library([cut]), f"the library goes on or ends at byte {header + len(cut)}, within a module"),
+                (object_library([cut, two]), f"another module begins at byte {header + len(cut)}, within a module"),
                 (object_library([block(w(1) + define("A", 1, False)) + block(w(6))]), f"no module begins at byte {header}, where one has to")):
             put(folder, "L.OBJ", content)
             wrong += differ("a damaged library", run("unlib", folder, "-o", "OUT", "L.OBJ"), (4, "", f"unlib: L.OBJ: {said}\n"))

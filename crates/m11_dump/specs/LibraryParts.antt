@@ -56,11 +56,12 @@ IsSound content = IsSoundAs (part_of content) content
 -- ---- the order: a module begins with a directory that names it, and ends with a record of type 6; the library's end follows the last
 -- module
 
--- the stage after a directory; None where it may not come: between modules if it names no module, and after the library's end
+-- the stage after a directory, which names a module exactly if it is the first one of that module; None where it may not come: between
+-- modules if it names none, inside a module if it names one, since the end of the module before is missing, and after the library's end
 abbrev pub after_directory : Stage → Bool → Option Stage
-after_directory Between named = if named then Some Inside else None
-after_directory Inside named = Some Inside
-after_directory Over named = None
+after_directory Between true = Some Inside
+after_directory Inside false = Some Inside
+after_directory stage named = None
 
 -- the stage after another record of a module: `next` if the record is inside a module, otherwise None
 abbrev pub after_inner : Stage → Stage → Option Stage

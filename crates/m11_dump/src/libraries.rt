@@ -180,9 +180,9 @@ fn list_blocks<F: Feed, S: Sink>(
 /// Errors, each with the number of its block, where that first block is 1, and the byte that shows it: `Block`, if the bytes aren't
 /// a block, the feed failed, or there are more than 4,194,304 bytes up to the end of the first block, or after it; `Record`, if a
 /// directory isn't a valid record, or a block has neither a type of a module's record nor that of the library's end; `Rule`, if a
-/// block comes where it may not, such as a module's first directory without the module's name, or if the bytes end before the
-/// library does; `Write`, if the sink failed, after part of a block's lines was written; `NoMemory`, if memory was refused. The
-/// lines of all earlier blocks are written first.
+/// block comes where it may not, such as a module's first directory without the module's name, or with a name before the module
+/// before has ended, or if the bytes end before the library does; `Write`, if the sink failed, after part of a block's lines was
+/// written; `NoMemory`, if memory was refused. The lines of all earlier blocks are written first.
 pub fn dump_library<F: Feed, S: Sink>(
     alloc: Global,
     feed: &mut F,

@@ -63,14 +63,14 @@ pub(crate) fn begins(record: &Record<'_>) -> bool
     record.entry_count() > 0 && matches!(record.entry(0).kind, GsdKind::ModuleName)
 }
 
-// The stage after a directory; None where it may not come: between modules if it begins no module, and after the library's end.
+// The stage after a directory; None where it may not come: between modules if it begins none, inside a module if it begins another
+// one, and after the library's end.
 fn after_directory(stage: Stage, begins: bool) -> Option<Stage>
     ensures { result ≡ spec.after_directory stage begins }
 {
-    match stage {
-        Stage::Between => if begins { Some(Stage::Inside) } else { None },
-        Stage::Inside => Some(Stage::Inside),
-        Stage::Over => None,
+    match (stage, begins) {
+        (Stage::Between, true) | (Stage::Inside, false) => Some(Stage::Inside),
+        (Stage::Between, false) | (Stage::Inside, true) | (Stage::Over, _) => None,
     }
 }
 
