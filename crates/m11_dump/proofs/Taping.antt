@@ -19,7 +19,7 @@ use Rattle.m11_dump.proofs.Gaining.{appends_nothing, gained_then, gained_texts}
 use Rattle.m11_dump.specs.Objects.{FailsToPut, Gained, Puts}
 use Rattle.m11_dump.specs.Positions.{StopsAt, count_read, fault_byte, placed_at, stop_byte}
 use Rattle.m11_dump.proofs.Offsets.{stops_at}
-use Rattle.m11_dump.specs.Tapes.{TapeView, DumpsTape, EndsHeld, EndsHeldBy, GivesBlocks, HeldFits, Hold, ReadsData, ShowsHeld, ShowsStart, StopsData, StopsHeld, StopsInside, TextsRead, beyond, block_texts, held_beyond, held_block, held_over, held_shown, held_text, over, part_after, said_after, start_text, tape_text, texts_from}
+use Rattle.m11_dump.specs.Tapes.{TapeView, DumpsTape, EndsHeld, EndsHeldBy, GivesBlocks, HeldFits, Hold, ReadsData, ShowsHeld, ShowsStart, StopsData, StopsHeld, StopsInside, TextsRead, beyond, block_texts, blocks_before, held_beyond, held_block, held_over, held_shown, held_text, over, part_after, said_after, start_text, tape_text, texts_from}
 use Rattle.m11_dump.specs.declared.fault.DumpFault.{DumpFault}
 use Rattle.m11_dump.specs.declared.fault.DumpFault.TheVariants as fault
 use Rattle.m11_dump.specs.declared.fault.LocatedFault.{LocatedFault}
@@ -383,26 +383,29 @@ module _ (view : TapeView) (old here : Position) (output output' : OutputState) 
   all_put : passed ≡ length (block_texts view blocks)
   all_put = d.counts ∙ sym (texts_long view 0 blocks)
 
-  -- why no further block was read
-  abbrev pub Reason : DumpFault → Position → Type 0
-  Reason (fault.Tape inner) new =
-      StopsAt (part_after first_part blocks) (why_of inner) here new d.gives.given (stop_byte (why_of inner) (count_read new))
-      ⊎ StopsInside (part_after first_part blocks) inner here new d.gives.given (stop_byte (why_of inner) (count_read new))
-  Reason fault.NoMemory new = ⊤
-  Reason fault.Write new = ⊥
-  Reason (fault.Block inner) new = ⊥
-  Reason (fault.Record inner) new = ⊥
-  Reason (fault.Rule inner) new = ⊥
+  -- why no further block was read, and how many blocks come before the one that is told
+  abbrev pub Reason : DumpFault → ℕ → Position → Type 0
+  Reason (fault.Tape inner) before new =
+      ((before ≡ blocks_before (length blocks) (length d.gives.given) (stop_byte (why_of inner) (count_read new)))
+      × StopsAt (part_after first_part blocks) (why_of inner) here new d.gives.given (stop_byte (why_of inner) (count_read new)))
+      ⊎ ((before ≡ length blocks)
+      × StopsInside (part_after first_part blocks) inner here new d.gives.given (stop_byte (why_of inner) (count_read new)))
+  Reason fault.NoMemory before new = before ≡ passed
+  Reason fault.Write before new = ⊥
+  Reason (fault.Block inner) before new = ⊥
+  Reason (fault.Record inner) before new = ⊥
+  Reason (fault.Rule inner) before new = ⊥
 
-  stopped_after : (new : Position) (final : OutputState) (f : DumpFault) → Reason f new → Gained (tape_text view blocks) output final
-      → DumpsTape view old new output final (Err (placed_at f passed (fault_byte f (count_read new))))
-  stopped_after new final (fault.Tape inner) why gained = (blocks, here, d.gives, passed, (gained, d.counts, why), refl)
-  stopped_after new final fault.NoMemory why gained =
+  stopped_after : (new : Position) (final : OutputState) (f : DumpFault) (before : ℕ) → Reason f before new
+      → Gained (tape_text view blocks) output final
+      → DumpsTape view old new output final (Err (placed_at f before (fault_byte f (count_read new))))
+  stopped_after new final (fault.Tape inner) before why gained = (blocks, here, d.gives, before, (gained, why), refl)
+  stopped_after new final fault.NoMemory before why gained =
       let none : 0 ≤ 2 = omega arith in (
         blocks,
         here,
         d.gives,
-        passed,
+        before,
         (
           block_texts view blocks,
           inl refl,
@@ -412,28 +415,28 @@ module _ (view : TapeView) (old here : Position) (output output' : OutputState) 
             all = sym (append-nil (block_texts view blocks));
             last = none;
             gained = gained;
-            number = all_put;
+            number = why ∙ all_put;
           },
           refl,
         ),
         refl,
       )
-  stopped_after new final fault.Write why gained = absurd why
-  stopped_after new final (fault.Block inner) why gained = absurd why
-  stopped_after new final (fault.Record inner) why gained = absurd why
-  stopped_after new final (fault.Rule inner) why gained = absurd why
+  stopped_after new final fault.Write before why gained = absurd why
+  stopped_after new final (fault.Block inner) before why gained = absurd why
+  stopped_after new final (fault.Record inner) before why gained = absurd why
+  stopped_after new final (fault.Rule inner) before why gained = absurd why
 
-  stops_by : (new : Position) (final : OutputState) (f : DumpFault) → Reason f new → (result : Result ℕ LocatedFault)
-      → ShowsHeld view held [] (count_read new) output' final result
-      → DumpsTape view old new output final (Err (said_after result (placed_at f passed (fault_byte f (count_read new)))))
-  stops_by new final f why (Ok n) s = stopped_after new final f why (ended_gained (count_read new) final n s)
-  stops_by new final f why (Err said) s = ended_refused new final said s
+  stops_by : (new : Position) (final : OutputState) (f : DumpFault) (before : ℕ) → Reason f before new
+      → (result : Result ℕ LocatedFault) → ShowsHeld view held [] (count_read new) output' final result
+      → DumpsTape view old new output final (Err (said_after result (placed_at f before (fault_byte f (count_read new)))))
+  stops_by new final f before why (Ok n) s = stopped_after new final f before why (ended_gained (count_read new) final n s)
+  stops_by new final f before why (Err said) s = ended_refused new final said s
 
-  stops_held : (new : Position) (final : OutputState) (f : DumpFault) (said : LocatedFault) → Reason f new
-      → StopsHeld view held f passed (count_read new) output' final said → DumpsTape view old new output final (Err said)
-  stops_held new final f said why s =
+  stops_held : (new : Position) (final : OutputState) (f : DumpFault) (before : ℕ) (said : LocatedFault) → Reason f before new
+      → StopsHeld view held f before (count_read new) output' final said → DumpsTape view old new output final (Err said)
+  stops_held new final f before said why s =
       let P : LocatedFault → Type 0 = λ x. DumpsTape view old new output final (Err x) in
-      subst P (sym s.2) (stops_by new final f why s.0 s.1)
+      subst P (sym s.2) (stops_by new final f before why s.0 s.1)
 
   module _ (new : Position) (after : TapeStage) (result : Result TapePart TapeFault) (r : ReadsNext stage here new after result) where
     part_read : ReadsPart (λ part. part) (part_after first_part blocks) here new result × (after ≡ stage_after result)
@@ -448,12 +451,22 @@ module _ (view : TapeView) (old here : Position) (output output' : OutputState) 
     pub stage_is : (same : Result TapePart TapeFault) → result ≡ same → after ≡ stage_after same
     stage_is same is = part_read.1 ∙ ap stage_after is
 
-    pub part_stops : (inner : TapeFault) → result ≡ Err inner → (final : OutputState) (said : LocatedFault)
-        → StopsHeld view held (fault.Tape inner) passed (count_read new) output' final said
+    pub part_stops : (inner : TapeFault) → result ≡ Err inner → (final : OutputState) (before : ℕ) (said : LocatedFault)
+        → before ≡ blocks_before passed (count_read here) (stop_byte (why_of inner) (count_read new))
+        → StopsHeld view held (fault.Tape inner) before (count_read new) output' final said
         → DumpsTape view old new output final (Err said)
-    part_stops inner is final said s = stops_held new final (fault.Tape inner) said
-        (inl (stops_at (part_after first_part blocks) (why_of inner) old here new d.gives.given
-        (stop_byte (why_of inner) (count_read new)) d.whole d.gives.took (part_as (Err inner) is) refl)) s
+    part_stops inner is final before said number s =
+        let byte = stop_byte (why_of inner) (count_read new) in
+        let end : count_read here ≡ length d.gives.given = omega (arith, d.whole, d.gives.took.room) in
+        let before_is : before ≡ blocks_before (length blocks) (length d.gives.given) byte =
+        number ∙ ap (λ (n : ℕ). blocks_before n (count_read here) byte) d.counts
+        ∙ ap (λ (n : ℕ). blocks_before (length blocks) n byte) end in
+        stops_held new final (fault.Tape inner) before said
+        (inl (
+          before_is,
+          stops_at (part_after first_part blocks) (why_of inner) old here new d.gives.given byte d.whole d.gives.took
+              (part_as (Err inner) is) refl,
+        )) s
 
     module _ (start : ℕ) (is : result ≡ Ok (Start start)) (final : OutputState) where
       last : Reads (part_after first_part blocks) here new (Start start)
@@ -500,16 +513,16 @@ module _ (view : TapeView) (old here : Position) (output output' : OutputState) 
       header : Reads (part_after first_part blocks) here new (Data address count)
       header = part_as (Ok (Data address count)) is
 
-      reason : (f : DumpFault) → StopsData f new end count → Reason f end
+      reason : (f : DumpFault) → StopsData f new end count → Reason f passed end
       reason fault.Write s = absurd s
-      reason fault.NoMemory s = tt
+      reason fault.NoMemory s = refl
       reason (fault.Block inner) s = absurd s
       reason (fault.Record inner) s = absurd s
       reason (fault.Rule inner) s = absurd s
       reason (fault.Tape inner) s =
           let before = took_then old here s.1 d.gives.given (header.given ++ s.0) d.gives.took
           (took_then here new s.1 header.given s.0 header.took s.2) in
-          inr (
+          let stops : StopsInside (part_after first_part blocks) inner here end d.gives.given (stop_byte (why_of inner) (count_read end)) = (
             s.1,
             record {
               address = address;
@@ -522,11 +535,11 @@ module _ (view : TapeView) (old here : Position) (output output' : OutputState) 
             },
             stops_at data_byte (why_of inner) old s.1 end (d.gives.given ++ (header.given ++ s.0))
                 (stop_byte (why_of inner) (count_read end)) d.whole before s.4 refl,
-          )
+          ) in inr (d.counts, stops)
 
       pub data_fails : (f : DumpFault) (said : LocatedFault) → StopsData f new end count
           → StopsHeld view held f passed (count_read end) output' final said → DumpsTape view old end output final (Err said)
-      data_fails f said stops s = stops_held end final f said (reason f stops) s
+      data_fails f said stops s = stops_held end final f passed said (reason f stops) s
 
       module _ (bytes : List ℕ) (stage' : TapeStage) (some : 0 < count) (t : ReadsData new end stage' address count bytes) where
         abbrev all : List (ℕ × List ℕ)

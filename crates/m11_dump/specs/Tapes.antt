@@ -1,6 +1,6 @@
 -- A dump of a tape: its blocks one after another, up to its transfer block or to the first fault. (RT-11 Volume and File Formats
 -- Manual, "Absolute binary file format". The lines, the faults and their positions are this project's own.)
-use Rattle.std.specs.Prelude.{◌≡◌, ◌⊎◌, ℕ, ◌+◌, ◌^◌, ◌<◌, ◌≤◌, ◌==◌, if◌then◌else◌, List, [], ◌∷◌, ◌++◌, length, take, codes, ⊤, Option, Some, None, Result, Ok, Err}
+use Rattle.std.specs.Prelude.{◌≡◌, ◌⊎◌, ℕ, ◌+◌, ◌-◌, ◌^◌, ◌<◌, ◌≤◌, ◌==◌, if◌then◌else◌, List, [], ◌∷◌, ◌++◌, length, take, codes, ⊤, Option, Some, None, Result, Ok, Err}
 use Rattle.std.specs.List.{concat}
 use Rattle.m11_base.specs.Devices.{Bytes}
 use Rattle.m11_base.specs.Octal.{octal_text}
@@ -112,6 +112,11 @@ abbrev pub StopsInside : (Bytes → Read TapeFault TapePart) → TapeFault → P
 StopsInside read inner here new before byte = (inside : Position) × (opened : InsideData read here inside)
     × StopsAt data_byte (why_of inner) inside new (before ++ (opened.header.given ++ opened.taken)) byte
 
+-- the number of blocks before the one that holds the byte at this offset, after `count` blocks of data, the last of which has its data
+-- up to the offset `end`: the byte there is the sum byte of that block
+abbrev pub blocks_before : ℕ → ℕ → ℕ → ℕ
+blocks_before count end byte = if byte == end then count - 1 else count
+
 -- the output failed at one of the last two texts, after the `before` texts that precede it were written
 pub record RefusesText (texts : List Bytes) (output output' : OutputState) (before : ℕ) : Type 0 where
   pub put : List Bytes
@@ -137,8 +142,9 @@ pub record LacksText (texts : List Bytes) (output output' : OutputState) (before
 -- part could be read, or not all data of one; a text couldn't be written; or memory was refused
 abbrev pub StopsTape : TapeView → DumpFault → Position → Position → OutputState → OutputState → List (ℕ × Bytes) → Bytes → ℕ → ℕ → Type 0
 StopsTape view (fault.Tape inner) here new output output' blocks given before byte = Gained (tape_text view blocks) output output'
-    × (before ≡ length blocks) × (StopsAt (part_after first_part blocks) (why_of inner) here new given byte
-    ⊎ StopsInside (part_after first_part blocks) inner here new given byte)
+    × (((before ≡ blocks_before (length blocks) (length given) byte)
+    × StopsAt (part_after first_part blocks) (why_of inner) here new given byte)
+    ⊎ ((before ≡ length blocks) × StopsInside (part_after first_part blocks) inner here new given byte))
 StopsTape view fault.Write here new output output' blocks given before byte =
     (texts : List Bytes) × TextsRead view blocks here new texts × RefusesText texts output output' before × (byte ≡ count_read new)
 StopsTape view fault.NoMemory here new output output' blocks given before byte =

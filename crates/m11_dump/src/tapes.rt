@@ -165,6 +165,18 @@ fn placed_after(fault: DumpFault, blocks: u64, reader: &TapeReader) -> LocatedFa
     placed(fault, blocks, fault_byte(fault, reader.bytes_read()))
 }
 
+// The number of blocks before the one in which this fault was found, where the next part should begin: after `passed` blocks of data, the
+// last of which has its data up to the offset `end`. The byte there is its sum byte, so that a fault at this byte is a fault of that block.
+fn blocks_before(fault: DumpFault, passed: u64, end: u32, reader: &TapeReader) -> u64
+    ensures { result ≡ spec.blocks_before passed end (fault_byte fault (most_bytes - reader.now.room)) }
+{
+    if fault_byte(fault, reader.bytes_read()) == u64::from(end) {
+        passed.saturating_sub(1)
+    } else {
+        passed
+    }
+}
+
 // The bytes that continue the pending block, if the next block has these bytes and this address: its first five if it begins where
 // the pending block ends; otherwise, or if no block is pending, none.
 fn beyond_of<'a>(held: &Option<Held>, address: u16, bytes: &'a [u8]) -> &'a [u8]
@@ -202,7 +214,7 @@ fn show_held<S: Sink>(
     }
 }
 
-// Shows the pending block, if there is one, with nothing after it, and returns this fault in the block after `passed` blocks, or
+// Shows the pending block, if there is one, with nothing after it, and returns this fault in the block after `before` blocks, or
 // the fault of showing the pending block.
 fn stopped<S: Sink>(
     alloc: Global,
@@ -210,17 +222,17 @@ fn stopped<S: Sink>(
     symbols: &[Symbol],
     held: &Option<Held>,
     fault: DumpFault,
-    passed: u64,
+    before: u64,
     reader: &TapeReader,
     sink: &mut S,
 ) -> LocatedFault
     requires fits { spec.HeldFits held.now }
-    requires few { passed < 2 ^ 32 }
-    ensures { spec.StopsHeld (tape_view view symbols.now) held.now fault passed (most_bytes - reader.now.room)
+    requires few { before < 2 ^ 32 }
+    ensures { spec.StopsHeld (tape_view view symbols.now) held.now fault before (most_bytes - reader.now.room)
         (output_of S.Sink sink.old) (output_of S.Sink sink.new) result }
 {
     match show_held(alloc, view, symbols, held, &[], reader, sink) {
-        Ok(_) => placed_after(fault, passed, reader),
+        Ok(_) => placed_after(fault, before, reader),
         Err(said) => said,
     }
 }
@@ -255,9 +267,8 @@ fn show_end<S: Sink>(
 ///
 /// Errors, each with the number of its block and the byte that shows it: `Tape`, if the bytes aren't a block, or the feed failed, ended
 /// without a transfer block or has more bytes than a tape may have; `Write`, if the sink failed, after part of a block's lines was
-/// written; `NoMemory`, if memory was refused for a block's data or lines. A wrong sum byte of a data block is found when the next
-/// block is read: the error gives the number of that next block, and the offset of the sum byte. The lines of all earlier blocks are
-/// written first.
+/// written; `NoMemory`, if memory was refused for a block's data or lines. A wrong or missing sum byte is a fault of its own block, whose
+/// lines are written before it is read. The lines of all blocks before a fault are written first.
 pub fn dump_tape<F: Feed, S: Sink>(
     alloc: Global,
     view: View,
@@ -273,6 +284,7 @@ pub fn dump_tape<F: Feed, S: Sink>(
     let mut held: Option<Held> = None;
     let mut passed: u64 = 0;
     'parts: loop {
+        let end = reader.bytes_read();
         match reader.next(feed) {
             Ok(TapePart::Data { address, count }) => {
                 match read_data(alloc, &mut reader, feed, address, count) {
@@ -299,7 +311,8 @@ pub fn dump_tape<F: Feed, S: Sink>(
             }
             Err(fault) => {
                 let fault = DumpFault::Tape(fault);
-                return Err(stopped(alloc, view, symbols, &held, fault, passed, &reader, sink));
+                let before = blocks_before(fault, passed, end, &reader);
+                return Err(stopped(alloc, view, symbols, &held, fault, before, &reader, sink));
             }
         }
     }

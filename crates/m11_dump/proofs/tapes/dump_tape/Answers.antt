@@ -100,7 +100,8 @@ returns-in-Ok-Start g c =
 
 pub returns-in-Err : goal.returns-in-Err
 returns-in-Err g c =
-    let is : c.next.result ≡ Err c.in-Err.fault = cc in (
+    let is : c.next.result ≡ Err c.in-Err.fault = cc in
+    let number = rw c.bytes_read-end.ensures at c.blocks_before-before.ensures in (
       c.next.new.self.room,
       part_stops
           (tape_view c.args.view c.args.symbols.now) (position (g.F.Feed.text c.args.feed.now) (g.F.Feed.faults c.args.feed.now) most_bytes)
@@ -109,5 +110,6 @@ returns-in-Err g c =
           c.parts.invariant.0 c.parts.invariant.1
           (position (g.F.Feed.text c.next.new.feed) (g.F.Feed.faults c.next.new.feed) c.next.new.self.room) c.next.new.self.stage
           c.next.result c.next.ensures.reads
-          c.in-Err.fault is (output_of g.S.Sink c.stopped-in-Err.new.sink) c.stopped-in-Err.result c.stopped-in-Err.ensures,
+          c.in-Err.fault is (output_of g.S.Sink c.stopped-in-Err.new.sink) c.blocks_before-before.result c.stopped-in-Err.result
+          number c.stopped-in-Err.ensures,
     )
