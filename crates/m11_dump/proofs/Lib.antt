@@ -1,4 +1,5 @@
 pub mod EachOctet
+pub mod EachWord
 pub mod ContentPositions
 pub mod Fields
 pub mod Items

@@ -1,9 +1,9 @@
 //! Laws about what a dump shows, and about the offset that it reports for the first byte of a block's content.
 
-ghost use Rattle.std.specs.Prelude.{◌≡◌, ◌⊎◌, ◌+◌, ◌<◌, ◌≤◌, ◌++◌, ◌∷◌, [], ℕ, List, drop, length, take, Ok};
+ghost use Rattle.std.specs.Prelude.{◌≡◌, ◌⊎◌, ◌+◌, ◌*◌, ◌<◌, ◌≤◌, ◌++◌, ◌∷◌, [], ℕ, List, drop, length, take, Ok};
 ghost use Rattle.std.specs.List.{AllByRecursion};
 ghost use Rattle.m11_base.specs.Devices.{Bytes};
-ghost use Rattle.m11_base.specs.Octal.{octal_value};
+ghost use Rattle.m11_base.specs.Octal.{octal_text, octal_value};
 ghost use Rattle.m11_dump.specs.BesideLaws.{AreBeside, IsShownAfter, IsShownBeside};
 ghost use Rattle.m11_base_disassembly.specs.declared.symbols.Symbol.{Symbol};
 ghost use Rattle.m11_base_disassembly.specs.Texts.{statement_text};
@@ -12,6 +12,7 @@ ghost use Rattle.m11_obj.specs.declared.relocations.Relocation.{Relocation};
 ghost use Rattle.m11_obj_blocks.specs.Blocks.{first_block};
 ghost use Rattle.m11_dump.specs.Positions.{LiesAt, content_start};
 ghost use Rattle.m11_dump.specs.Octets.{location_after, octal3, octet, octets, octets_from};
+ghost use Rattle.m11_dump.specs.Words.{byte_cell, word_cell, words_from};
 
 /// A block's content begins at the offset that a dump reports for its first byte. The content ends just before the sum byte, which is
 /// the last byte read.
@@ -39,6 +40,17 @@ pub fn each_byte_is_shown_once_in_order()
     ensures within { (address shown : ℕ) (bytes beyond : Bytes) → shown ≤ length bytes
         → over_from address 0 shown bytes beyond ≤ length beyond }
     ensures spelled { (byte : ℕ) → byte < 256 → octal_value (octal3 byte) ≡ byte }
+{}
+
+/// A dump of a tape's block in octal, at an even address, shows each word exactly once, in order, at its address; the low byte of a word
+/// is the first of its two bytes, and the six digits of a word spell its value. A last byte without another one is shown as a byte.
+pub fn each_word_is_shown_once_in_order()
+    ensures order { (address count low high : ℕ) (before following : Bytes) → length before ≡ 2 * count
+        → words_from address 0 (before ++ low ∷ high ∷ following) ≡ words_from address 0 before
+        ++ (word_cell address (length before) (low + 256 * high) ++ words_from address (length before + 2) following) }
+    ensures last { (address count byte : ℕ) (before : Bytes) → length before ≡ 2 * count
+        → words_from address 0 (before ++ byte ∷ []) ≡ words_from address 0 before ++ byte_cell address (length before) byte }
+    ensures spelled { (low high : ℕ) → low < 256 → high < 256 → octal_value (octal_text (low + 256 * high)) ≡ low + 256 * high }
 {}
 
 /// Without symbols, the source in a line is the text of its statement alone, without a comment.
