@@ -1,4 +1,4 @@
-use Rattle.std.proofs.Common.{◌≡◌, ◌∙◌, ap, subst, ℕ, ◌-◌, List, [], ◌∷◌, ◌++◌, Ok, Err, refl}
+use Rattle.std.proofs.Common.{◌≡◌, subst, ℕ, ◌-◌, List, [], ◌∷◌, ◌++◌, Ok, Err, refl}
 use Rattle.std.proofs.lemmas.Result.{err_from_is_err_and}
 use Rattle.m11_obj_blocks.specs.Limited.{most_bytes, position}
 use Rattle.m11_obj_blocks.specs.declared.tape_part.TapePart.TheVariants.{Data, Start}
@@ -26,7 +26,7 @@ parts-preserved g c =
       before = c.parts.passed;
     } in
     let joined : c.beyond_of-beyond.result.now ≡ held_beyond c.parts.held (c.in-Ok-Data.address, c.in-Ok.bytes.items) =
-    c.beyond_of-beyond.ensures ∙ ap (λ (l : List ℕ). held_beyond c.parts.held (c.in-Ok-Data.address, l)) c.deref.ensures.value in
+    rw c.deref.ensures.value at c.beyond_of-beyond.ensures in
     let P : List ℕ → Type 0 = λ bytes. ShowsHeld (tape_view c.args.view c.args.symbols.now) c.parts.held bytes (most_bytes - c.read_data.new.reader.room)
     (output_of g.S.Sink c.parts.sink) (output_of g.S.Sink c.show_held.new.sink) (Ok c.in_ok-shown-in-Ok.shown) in (
       c.parts.invariant.0 ++ (c.in-Ok-Data.address, c.in-Ok.bytes.items) ∷ [],
@@ -51,7 +51,7 @@ returns-in_err-shown-in-Ok g c =
     let is : c.next.result ≡ Ok (Data c.in-Ok-Data.address c.in-Ok-Data.count) = cc in
     let fits = rw c.in-Ok-Data.field-0-is at c.in-Ok-Data.ensures.fits in
     let joined : c.beyond_of-beyond.result.now ≡ held_beyond c.parts.held (c.in-Ok-Data.address, c.in-Ok.bytes.items) =
-    c.beyond_of-beyond.ensures ∙ ap (λ (l : List ℕ). held_beyond c.parts.held (c.in-Ok-Data.address, l)) c.deref.ensures.value in
+    rw c.deref.ensures.value at c.beyond_of-beyond.ensures in
     let P : List ℕ → Type 0 = λ bytes. ShowsHeld (tape_view c.args.view c.args.symbols.now) c.parts.held bytes (most_bytes - c.read_data.new.reader.room)
     (output_of g.S.Sink c.parts.sink) (output_of g.S.Sink c.show_held.new.sink) (Err c.in_err-shown-in-Ok.field-0.0) in (
       c.read_data.new.reader.room,
