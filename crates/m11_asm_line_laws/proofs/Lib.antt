@@ -9,3 +9,4 @@ mod Printing
 mod ReadAsWritten
 mod ReadBack
 mod Refused
+mod TextFlags

@@ -28,6 +28,11 @@ mod conditions;
 
 pub use conditions::{a_repeat_without_a_number_has_no_round, refused_conditions_do_not_hold};
 
+// Flags that the text of an expression decides.
+mod text_flags;
+
+pub use text_flags::texts_decide_n_q_and_t;
+
 // Conditions that hold, and conditions that don't.
 mod worked_conditions;
 
