@@ -32,6 +32,7 @@ pub mod LabelsLie
 pub mod GlobalsLie
 pub mod NoMessages
 pub mod WorkedOut
+pub mod WorkedFits
 pub mod BranchesLead
 pub mod DirectoryTaken
 pub mod TextsTaken
