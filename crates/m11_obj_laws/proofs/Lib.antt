@@ -10,3 +10,4 @@ pub mod EntryFaults
 pub mod RelocationFaults
 pub mod Directories
 pub mod RecordFaults
+pub mod NotMended

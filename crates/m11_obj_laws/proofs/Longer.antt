@@ -16,15 +16,15 @@ use Rattle.m11_obj.proofs.Steps.{relocation_of}
 use Rattle.m11_obj_laws.specs.Faults.{IsCut}
 
 -- the result of a reading with more bytes after it
-abbrev extended : {A : Type 0} → Result (A × List ℕ) RecordFault → List ℕ → Result (A × List ℕ) RecordFault
+abbrev pub extended : {A : Type 0} → Result (A × List ℕ) RecordFault → List ℕ → Result (A × List ℕ) RecordFault
 extended (Ok x) more = Ok (x.0, x.1 ++ more)
 extended (Err said) more = Err said
 
 -- the bytes end too early, or more bytes after them change nothing
-abbrev Extends : {A : Type 0} → Result (A × List ℕ) RecordFault → Result (A × List ℕ) RecordFault → List ℕ → Type 0
+abbrev pub Extends : {A : Type 0} → Result (A × List ℕ) RecordFault → Result (A × List ℕ) RecordFault → List ℕ → Type 0
 Extends r longer more = (r ≡ Err BadLength) ⊎ (longer ≡ extended r more)
 
-then_extends : {A B : Type 0} (r longer : Result (A × List ℕ) RecordFault)
+pub then_extends : {A B : Type 0} (r longer : Result (A × List ℕ) RecordFault)
     (f : A × List ℕ → Result (B × List ℕ) RecordFault) (more : List ℕ) → Extends r longer more
     → ((x : A × List ℕ) → Extends (f x) (f (x.0, x.1 ++ more)) more) → Extends (r >>= f) (longer >>= f) more
 then_extends (Ok x) longer f more (inl e) g = absurd cc
@@ -38,7 +38,7 @@ then_extends {A} (Err fault) longer f more (inr e) g =
     inr (ap (λ (r : Result (A × List ℕ) RecordFault). r >>= f) e)
 
 -- a step that reads no byte leaves this true
-between_extends : {A B : Type 0} (r : Result A RecordFault) (f g : A → Result (B × List ℕ) RecordFault) (more : List ℕ)
+pub between_extends : {A B : Type 0} (r : Result A RecordFault) (f g : A → Result (B × List ℕ) RecordFault) (more : List ℕ)
     → ((x : A) → Extends (f x) (g x) more) → Extends (r >>= f) (r >>= g) more
 between_extends (Ok x) f g more h = h x
 between_extends (Err fault) f g more h = inr refl
@@ -47,7 +47,7 @@ byte_extends : (bytes more : List ℕ) → Extends (first_byte bytes) (first_byt
 byte_extends [] more = inl refl
 byte_extends (byte ∷ rest) more = inr refl
 
-word_extends : (bytes more : List ℕ) → Extends (first_word bytes) (first_word (bytes ++ more)) more
+pub word_extends : (bytes more : List ℕ) → Extends (first_word bytes) (first_word (bytes ++ more)) more
 unfolding first_word
 word_extends [] more = inl refl
 word_extends (low ∷ []) more = inl refl
@@ -73,7 +73,7 @@ name_extends bytes more =
     (λ first. then_extends (first_name_word first.1) (first_name_word (first.1 ++ more))
     (λ second. Ok ((first.0, second.0), second.1)) more (name_word_extends first.1 more) (λ second. inr refl))
 
-entry_extends : (bytes more : List ℕ) → Extends (first_entry bytes) (first_entry (bytes ++ more)) more
+pub entry_extends : (bytes more : List ℕ) → Extends (first_entry bytes) (first_entry (bytes ++ more)) more
 unfolding first_entry
 entry_extends bytes more =
     then_extends (first_name bytes) (first_name (bytes ++ more))
@@ -109,7 +109,7 @@ target_extends (NameAndConstant target) bytes more =
     (λ name. then_extends (first_word name.1) (first_word (name.1 ++ more))
     (λ constant. Ok (target name.0 constant.0, constant.1)) more (word_extends name.1 more) (λ constant. inr refl))
 
-relocation_extends : (bytes more : List ℕ)
+pub relocation_extends : (bytes more : List ℕ)
     → Extends (first_relocation bytes) (first_relocation (bytes ++ more)) more
 unfolding first_relocation
 relocation_extends bytes more =

@@ -10,4 +10,4 @@ pub use tape_stops::{tape_cuts_are_shown, tape_stops_are_shown};
 
 mod faults;
 
-pub use faults::record_faults_are_shown;
+pub use faults::{bytes_after_a_fault_do_not_mend_it, record_faults_are_shown};
