@@ -13,6 +13,11 @@ _m11_files() {
     )
 }
 
+# The option that must be the only word, where the word is the first one.
+_m11_alone() {
+    ((COMP_CWORD > 1)) || echo ' --version'
+}
+
 # Options where the word begins with a hyphen, and elsewhere files with one of the ends that follow.
 _m11_words() {
     if [[ $1 == -* ]]; then
@@ -26,7 +31,7 @@ _m11() {
     local word=${COMP_WORDS[COMP_CWORD]} before=${COMP_WORDS[COMP_CWORD - 1]}
     COMPREPLY=()
     if ((COMP_CWORD == 1)); then
-        mapfile -t COMPREPLY < <(compgen -W 'asm link sim -h --help' -- "$word")
+        mapfile -t COMPREPLY < <(compgen -W 'asm link sim -h --help --version' -- "$word")
         return
     fi
     case ${COMP_WORDS[1]}:$before in
@@ -47,7 +52,7 @@ _m11_dump() {
     case ${COMP_WORDS[COMP_CWORD - 1]} in
         -y | --symbols) _m11_files "${COMP_WORDS[COMP_CWORD]}" MAP LST OBJ ;;
         -b | --bottom) ;;
-        *) _m11_words "${COMP_WORDS[COMP_CWORD]}" '-d --disassemble -o --object -t --tape -m --map -b --bottom -y --symbols -h --help' OBJ TAP ;;
+        *) _m11_words "${COMP_WORDS[COMP_CWORD]}" '-d --disassemble -o --object -t --tape -m --map -b --bottom -y --symbols -h --help'"$(_m11_alone)" OBJ TAP ;;
     esac
 }
 
@@ -56,7 +61,7 @@ _m11_trace() {
     case ${COMP_WORDS[COMP_CWORD - 1]} in
         -y | --symbols) _m11_files "${COMP_WORDS[COMP_CWORD]}" MAP LST OBJ ;;
         -[nskfpwrb] | --steps | --start | --words | --from | --place | --watch | --range | --bottom) ;;
-        *) _m11_words "${COMP_WORDS[COMP_CWORD]}" '-n --steps -s --start -k --words -f --from -p --place -w --watch -r --range -y --symbols -b --bottom -h --help' TAP ;;
+        *) _m11_words "${COMP_WORDS[COMP_CWORD]}" '-n --steps -s --start -k --words -f --from -p --place -w --watch -r --range -y --symbols -b --bottom -h --help'"$(_m11_alone)" TAP ;;
     esac
 }
 

@@ -147,7 +147,8 @@ def check_completion(repository):
     os.mkdir(os.path.join(repository.folder, "work", "Pages"))
     for words, wanted in ((["a"], "asm"), (["s"], "sim"), (["asm", ""], "P.MAC Pages q.mac"), (["asm", "P"], "P.MAC Pages"), (["asm", "-o", "P"], "P.OBJ Pages"),
                           (["asm", "--l"], "--listing"), (["link", "-o", "x", "P"], "P.OBJ Pages"), (["link", "--m"], "--map"), (["link", "-b", ""], ""),
-                          (["sim", "P"], "P.TAP Pages"), (["sim", "--st"], "--start --steps"), (["other", "P"], "")):
+                          (["sim", "P"], "P.TAP Pages"), (["sim", "--st"], "--start --steps"), (["other", "P"], ""), (["--v"], "--version"),
+                          (["--"], "--help --version"), (["asm", "--v"], "")):
         said = subprocess.run(["bash", "-c", 'source "$0"; COMP_WORDS=("$@"); COMP_CWORD=$(($# - 1)); _m11; printf "%s\\n" "${COMPREPLY[@]}"',
                                repository.at("tools/completion.bash"), "m11", *words], cwd=os.path.join(repository.folder, "work"),
                               capture_output=True, text=True, check=False)
@@ -159,7 +160,7 @@ def check_dump_completion(repository):
     for name in ("q.obj", "P.OBJ", "P.TAP", "q.tap", "P.MAC"):
         put(os.path.join(repository.folder, "work", name), "")
     for words, wanted in (([""], "P.OBJ P.TAP q.obj q.tap"), (["P.OBJ", "q"], "q.obj q.tap"), (["P.TAP", "-t", "P"], "P.OBJ P.TAP"), (["--h"], "--help"),
-                          (["-b", ""], "")):
+                          (["-b", ""], ""), (["--v"], "--version"), (["P.OBJ", "--v"], "")):
         said = subprocess.run(["bash", "-c", 'source "$0"; COMP_WORDS=("$@"); COMP_CWORD=$(($# - 1)); _m11_dump; printf "%s\\n" "${COMPREPLY[@]}"',
                                repository.at("tools/completion.bash"), "m11-dump", *words], cwd=os.path.join(repository.folder, "work"),
                               capture_output=True, text=True, check=False)
@@ -170,7 +171,8 @@ def check_trace_completion(repository):
     """The completions after some words of m11-trace."""
     for name in ("q.tap", "P.OBJ", "P.TAP"):
         put(os.path.join(repository.folder, "work", name), "")
-    for words, wanted in (([""], "P.TAP q.tap"), (["-p", "1000", "q"], "q.tap"), (["-p", ""], ""), (["--f"], "--from")):
+    for words, wanted in (([""], "P.TAP q.tap"), (["-p", "1000", "q"], "q.tap"), (["-p", ""], ""), (["--f"], "--from"),
+                          (["--v"], "--version"), (["P.TAP", "--v"], "")):
         said = subprocess.run(["bash", "-c", 'source "$0"; COMP_WORDS=("$@"); COMP_CWORD=$(($# - 1)); _m11_trace; printf "%s\\n" "${COMPREPLY[@]}"',
                                repository.at("tools/completion.bash"), "m11-trace", *words], cwd=os.path.join(repository.folder, "work"),
                               capture_output=True, text=True, check=False)
