@@ -12,6 +12,14 @@ from pathlib import Path
 # its seconds of the clock.
 Run = namedtuple("Run", "printed status seconds peak clock")
 
+TOP = Path(__file__).resolve().parent.parent
+
+
+def program(name):
+    """The program with this name: the one that ./prove built last, or else the one in dist/."""
+    built = TOP / "out" / name
+    return built if built.exists() else TOP / "dist" / name
+
 
 def peak_of(pid):
     """The highest resident memory so far, in KiB; 0 if the process has ended."""

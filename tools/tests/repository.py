@@ -1,4 +1,5 @@
-"""The small repository in which scripts.py, builds.py and releases.py run the scripts at the top, with a stand-in for rt. The folder has a space in its name.
+"""The small repository in which scripts.py, proving.py, checking.py and releases.py run the scripts at the top, with a stand-in for rt. The folder
+has a space in its name.
 
 The stand-in builds programs that print their arguments, and records each build. Nothing here waits for a fixed time: each test waits for the
 event that it expects."""
@@ -11,7 +12,8 @@ import tempfile
 import time
 
 TOP = os.path.dirname(os.path.dirname(os.path.dirname(os.path.realpath(__file__))))
-COPIED = ("m11", "m11-dump", "m11-trace", "docs/man/m11.1", "tools/completion.bash", "tools/program.bash")
+COPIED = (".ci/run", "VERSION", "check", "m11", "m11-dump", "m11-trace", "prove", "docs/man/m11.1", "tools/completion.bash", "tools/program.sh", "tools/programs.bash",
+          "tools/proving.bash", "tools/version")
 LISTS = "# a list for each crate\nm11_low: std\nm11_other: m11_low\nm11: m11_low\nm11_dumper: m11_low\nm11_tracer: m11_low\n"
 FILES = ("m11/src/main.rt", "m11_low/src/lib.rt", "m11_low/specs/Lib.antt", "m11_low/proofs/one/Answers.antt", "m11_low/must-fail/one.edit",
          "m11_other/src/lib.rt", "m11/data/P.MAC", "m11/args", "m11_dumper/src/main.rt", "m11_dumper/stdin", "m11_dumper/stdout",
@@ -23,7 +25,7 @@ NOBODY = 65534
 PATIENCE = 120
 
 RT = r"""#!/bin/bash
-# `rt version`, and `rt ci`, which takes each crate of the list for proved, and makes and runs the programs. Files in the folder HOME
+# `rt version`, `rt doc`, and `rt ci`, which takes each crate of the list for proved, and makes and runs the programs. Files in the folder HOME
 # tell it what else to do.
 told() { [[ -e $HOME/$1 ]]; }
 
@@ -43,14 +45,15 @@ wait_in_mid_build() {
 # Makes a program, and runs it as rt does.
 make() {
     local as_nobody=() room=$TMPDIR/rt-run
-    mkdir "crates/$1/out" && cp "$HOME/program" "crates/$1/out/$1" || return
+    mkdir -p "crates/$1/out" && cp "$HOME/program" "crates/$1/out/$1" && cp "$HOME/program" "crates/$1/out/$1.by-rattle" || return
     ((EUID)) || as_nobody=(setpriv --reuid=65534 --regid=65534 --clear-groups)
     mkdir "$room" && chmod 711 "$room" && mkdir "$room/bin" && cp "$HOME/program" "$room/bin/$1" || return
     (cd "$room" && exec "${as_nobody[@]}" "$room/bin/$1" --help) && rm -r "$room"
 }
 
 case $1 in
-version) echo kit-1 logic 1 ;;
+version) if told other-kit; then echo kit-2 logic 1; else echo kit-1 logic 1; fi ;;
+doc) echo "$HOME/a kit/START-HERE.md" ;;
 ci)
     echo "$PWD" >>"$HOME/builds"
     find . -type f -o -name .git | LC_ALL=C sort >"$HOME/given"
@@ -72,10 +75,12 @@ ci)
             echo "rt: $name proved"
         fi
     done <crates.txt
+    echo "$(wc -l <crates.txt) passed, 0 failed"
     ;;
 esac
 """
 PROGRAM = r"""#!/bin/sh
+# symbols
 # Prints its words. After the word `hold` it goes on until a file is there.
 echo "ran $*"
 if [ "$1" = hold ]; then
@@ -83,6 +88,12 @@ if [ "$1" = hold ]; then
     until [ -e "$HOME/goes" ]; do sleep 0.05; done
 fi
 [ "$1" = --help ] || exit 4
+"""
+
+
+# What the kit has under this name takes the symbols from a program when it is called so.
+CLANG = r"""#!/bin/sh
+[ "$1 $3 $#" = "-o -- 4" ] && sed 's/^# symbols$/# stripped/' "$4" >"$2"
 """
 
 
@@ -118,6 +129,8 @@ class Repository:
         self.stand_in("rt", RT)
         put(self.beside("program"), PROGRAM)
         os.chmod(self.beside("program"), 0o755)
+        put(self.beside("a kit/toolchain/bin/clang"), CLANG)
+        os.chmod(self.beside("a kit/toolchain/bin/clang"), 0o755)
 
     def at(self, name):
         """The path of a file of it."""
@@ -170,10 +183,14 @@ class Repository:
         if got != wanted:
             self.found.append(f"{what}\n--- is\n{got}\n--- should be\n{wanted}")
 
-    def expect_builds(self, what, count, script="m11"):
-        """A call must run the program, after this total number of builds."""
-        self.expect(what, self.run(["a b", "-c"], script)[:2], (4, "ran a b -c\n"))
+    def expect_proof(self, what, count, words=()):
+        """./prove must succeed, after which the programs were built this total number of times."""
+        self.expect(what, self.run(words, "prove")[0], 0)
         self.expect(f"{what}: builds", self.builds(), count)
+
+    def expect_run(self, what, script="m11"):
+        """A call must run the program."""
+        self.expect(f"{what}: {script}", self.run(["a b", "-c"], script), (4, "ran a b -c\n", ""))
 
     def expect_soon(self, what, holds):
         """Waits until something holds."""
@@ -203,9 +220,8 @@ class Repository:
         """Of a build that ended, no process and no file may be left beside the programs and the log."""
         self.expect(f"{what}: processes that are left", self.processes(), [])
         self.expect(f"{what}: temporary files that are left", os.listdir(self.temporary), [])
-        for crate in PROGRAMS.values():
-            left = os.listdir(self.at(f"crates/{crate}/out")) if os.path.exists(self.at(f"crates/{crate}/out")) else []
-            self.expect(f"{what}: files that are left for {crate}", [name for name in left if name not in (crate, "built", "build.log")], [])
+        left = os.listdir(self.at("out")) if os.path.exists(self.at("out")) else []
+        self.expect(f"{what}: files that are left", [name for name in left if name not in (*PROGRAMS, "MANIFEST", "prove.log")], [])
 
     def end(self):
         """Ends all that runs."""
@@ -232,6 +248,6 @@ def over_a_repository(check):
     return checked
 
 
-def checks(*given):
-    """Rows of tools/test.py for these checks."""
-    return [(check.__name__.replace("check_", "scripts-"), over_a_repository(check), ()) for check in given]
+def checks(*given, of="prove"):
+    """Rows of tools/test.py for these checks, of scripts with this name."""
+    return [(check.__name__.replace("check_", f"{of}-"), over_a_repository(check), ()) for check in given]

@@ -1,88 +1,93 @@
-"""Checks of the scripts at the top, m11, m11-dump and m11-trace: when they build, what they refuse, and what the shell completes. CHECKS lists
-them for tools/test.py. builds.py has the checks of how they build, and releases.py those of install."""
+"""Checks of the scripts at the top, m11, m11-dump and m11-trace: what they run, what they refuse, and what the shell completes. CHECKS lists
+them for tools/test.py. proving.py has the checks of ./prove, and releases.py those of install."""
 import os
 import shutil
 import subprocess
+import time
 
-from tests.repository import LISTS, NOBODY, checks, put
+from tests.repository import NOBODY, PROGRAMS, checks, put
 
-
-def age(top):
-    """Makes all files older than any build."""
-    for at, folders, files in os.walk(top):
-        for name in folders + files:
-            os.utime(os.path.join(at, name), (10 ** 9, 10 ** 9))
+VERSION = "1.2.3"
 
 
-def check_builds(repository):
-    """The program is rebuilt exactly if its own sources changed."""
-    age(repository.top)
-    repository.expect_builds("the first call", 1)
-    repository.expect_builds("the second call", 1)
-    for name in ("crates/m11_other/src/lib.rt", "crates/m11/data/P.MAC", "crates/m11/args", "docs/man/m11.1"):
-        put(repository.at(name), "other\n")
-        repository.expect_builds(f"a change of {name}", 1)
-    os.utime(repository.at("crates/m11_low/src/lib.rt"))
-    repository.expect_builds("a new time", 1)
-    put(repository.at("crates.txt"), LISTS.replace("m11_other: m11_low", "m11_other: std"))
-    repository.expect_builds("a list of another crate", 1)
-    changes = (("crates.txt", LISTS.replace("m11_low: std", "m11_low: core")), ("crates/m11_low/src/lib.rt", "new\n"),
-               ("crates/m11_low/specs/Lib.antt", "new\n"), ("crates/m11/src/more.rt", "new\n"))
-    for count, (name, text) in enumerate(changes, 2):
-        put(repository.at(name), text)
-        repository.expect_builds(f"a change of {name}", count)
-    os.remove(repository.at("crates/m11_low/proofs/one/Answers.antt"))
-    repository.expect_builds("a proof that is gone", 6)
-    repository.expect_builds("the call after it", 6)
+def fill_dist(repository):
+    """Puts programs into dist/, and nothing into out/."""
+    put(repository.at("VERSION"), VERSION + "\n")
+    repository.expect_proof("the programs of dist", 1, ["--dist"])
+    shutil.rmtree(repository.at("out"))
 
 
-def check_dump(repository):
-    """Another program is rebuilt exactly if its own sources changed, and reports its own name."""
-    repository.expect_builds("the first call", 1, "m11-dump")
-    for name in ("crates/m11_other/src/lib.rt", "crates/m11/src/main.rt"):
-        put(repository.at(name), "new\n")
-        repository.expect_builds(f"a change of {name}", 1, "m11-dump")
-    put(repository.at("crates/m11_dumper/src/main.rt"), "new\n")
-    repository.expect_builds("a change of its own", 2, "m11-dump")
-    repository.expect("the version", repository.run(["--version"], "m11-dump")[1],
-                      "m11-dump: commit unknown (there is no git that knows it), kit kit-1 logic 1\n")
-    repository.tell("fails")
+def check_programs(repository):
+    """Each script runs the program that was built here last, or else dist/'s, and never rt. An edit has its effect after ./prove."""
+    fill_dist(repository)
+    for script in PROGRAMS:
+        repository.expect_run("dist's", script)
     put(repository.at("crates/m11_low/src/lib.rt"), "new\n")
-    status, out, said = repository.run(["x"], "m11-dump")
-    repository.expect("a build that fails", (status, out, "m11-dump: the build failed" in said), (70, "", True))
+    put(repository.beside("program"), "#!/bin/sh\necho edited $*\n")
+    for script in PROGRAMS:
+        repository.expect_run("of an edited source", script)
+    repository.expect_proof("the edited source", 2, ["m11-dump"])
+    repository.expect("the program of out", repository.run(["x"], "m11-dump"), (0, "edited x\n", ""))
+    repository.expect_run("the others", "m11-trace")
+    repository.expect("without rt", repository.run(["x"], "m11-dump", has_rt=False), (0, "edited x\n", ""))
+    repository.expect("builds", repository.builds(), 2)
 
 
-def check_copies(repository):
-    """A copy of a repository with its program is run as it is, whatever the times of its files, even if nothing can be written."""
-    repository.expect_builds("the first call", 1)
-    shutil.copytree(repository.top, repository.top + " copy", copy_function=shutil.copyfile)
-    for at, _, files in os.walk(repository.top + " copy"):
-        for name in files:
-            os.chmod(os.path.join(at, name), 0o755)
-    repository.top += " copy"
-    os.utime(repository.at("crates/m11_low/src/lib.rt"))
-    os.utime(repository.at("crates/m11/out/built"), (10 ** 9, 10 ** 9))
-    repository.expect("a call by somebody else", by_nobody(repository, ["x"]), (4, "ran x\n", ""))
-    repository.expect_builds("a call", 1)
-    put(repository.at("crates/m11_low/src/lib.rt"), "new\n")
-    status, _, said = by_nobody(repository, ["x"])
-    repository.expect("somebody else, when it is to be built", (status, said.count("\n"), "may write to" in said), (70, 1, True))
-    repository.expect("builds", repository.builds(), 1)
+def check_calls(repository):
+    """The scripts find their programs from any folder, by a link, on the PATH, by a shell, and as somebody who may write nothing."""
+    fill_dist(repository)
+    ran = (4, b"ran a b -c\n", b"")
+    os.symlink("../m 11/m11", repository.beside("bin/linked"))
+    os.symlink("linked", repository.beside("bin/twice"))
+    calls = (([repository.at("m11")], "/"), (["./m11"], repository.top), (["m 11/m11"], repository.folder), (["../m11"], repository.at("crates")),
+             ([repository.beside("bin/linked")], "/"), (["./twice"], repository.beside("bin")), (["twice"], "/"), (["sh", "m11"], repository.top),
+             (["bash", "m11"], repository.top))
+    for words, folder in calls:
+        done = subprocess.run([*words, "a b", "-c"], cwd=folder, env={"PATH": repository.beside("bin") + ":/usr/bin:/bin", "HOME": repository.folder},
+                              capture_output=True, check=False)
+        repository.expect(f"{words} in {folder}", (done.returncode, done.stdout, done.stderr), ran)
+    repository.expect("by somebody else", by_nobody(repository, ["a b", "-c"]), (4, "ran a b -c\n", ""))
 
 
-def check_owners(repository):
-    """A user who may not write where one of the programs is builds none."""
-    other = repository.at("crates/m11_tracer")
-    if os.geteuid() == 0:
-        for at, _, _ in os.walk(repository.top):
-            os.chown(at, NOBODY if at != other else 0, NOBODY)
-        status, _, said = repository.run(["x"], user=NOBODY, group=NOBODY)
-    else:
-        os.chmod(other, 0o555)
-        status, _, said = repository.run(["x"])
-        os.chmod(other, 0o755)
-    repository.expect("a call", (status, said.count("\n"), "may write to" in said), (70, 1, True))
-    repository.expect("builds", repository.builds(), 0)
+def check_machines(repository):
+    """Where the program can't be run, a sentence says why, and what runs where."""
+    fill_dist(repository)
+    script = repository.at("tools/program.sh")
+    with open(script, encoding="utf-8") as file:
+        text = file.read()
+    put(script, text.replace("/lib64/ld-linux-x86-64.so.2", "/lib64/no-loader"))
+    here = " ".join((os.uname().sysname, os.uname().machine))
+    for name in PROGRAMS:
+        status, out, said = repository.run(["x"], name)
+        repository.expect(f"another machine: {name}", (status, out, said.startswith(f"{name}: this program runs on Linux on x86-64 with "), f"this is {here}," in said),
+                          (70, "", True, True))
+    repository.expect("the version there", repository.run(["--version"])[0], 0)
+    put(script, text)
+    os.chmod(repository.at("dist/m11"), 0o644)
+    repository.expect("a program that may not be run", repository.run(["x"])[:2], (70, ""))
+    os.remove(repository.at("dist/m11"))
+    status, out, said = repository.run(["x"])
+    repository.expect("no program", (status, out, said), (70, "", f"m11: {repository.at('dist/m11')} can't be run: it isn't there, or its folder admits no programs\n"))
+    os.remove(script)
+    repository.expect("no library", repository.run(["x"], "m11-trace")[:2], (70, ""))
+
+
+def check_time(repository):
+    """A call takes at most five milliseconds more than the program itself, also where paths are looked at. The fastest of several counts."""
+    fill_dist(repository)
+    put(repository.beside("A.MAC"), "\t.END\n")
+    words = ["asm", "-o", "N", "-l", "M", "A.MAC"]
+
+    def fastest(program):
+        times = []
+        for _ in range(40):
+            began = time.perf_counter()
+            subprocess.run([program, *words], cwd=repository.folder, stdout=subprocess.DEVNULL, check=False)
+            times.append(time.perf_counter() - began)
+        return min(times)
+
+    longer = fastest(repository.at("m11")) - fastest(repository.at("dist/m11"))
+    repository.expect(f"at most 5 ms longer, and it takes {longer * 1000:.1f}", longer <= 0.005, True)
 
 
 def by_nobody(repository, words):
@@ -97,24 +102,46 @@ def by_nobody(repository, words):
     return said
 
 
-def check_version(repository):
-    """The version is printed without a build, from git and the kit."""
-    repository.expect("without git", repository.run(["--version"]), (0, "m11: commit unknown (there is no git that knows it), kit kit-1 logic 1\n", ""))
+def make_commit(repository):
+    """Makes a commit of all but out/, and returns its name."""
+    put(repository.at(".gitignore"), "out/\n")
     for words in (["init", "-q"], ["add", "."], ["-c", "user.name=a", "-c", "user.email=a@b", "commit", "-qm", "One"]):
         subprocess.run(["git", *words], cwd=repository.top, check=True)
-    commit = subprocess.run(["git", "rev-parse", "--short=12", "HEAD"], cwd=repository.top, check=True, capture_output=True, text=True).stdout.strip()
-    repository.expect("with git", repository.run(["--version"]), (0, f"m11: commit {commit}, kit kit-1 logic 1\n", ""))
-    repository.expect("builds", repository.builds(), 0)
-    repository.run(["x"])
+    return subprocess.run(["git", "rev-parse", "--short=12", "HEAD"], cwd=repository.top, check=True, capture_output=True, text=True).stdout.strip()
+
+
+def check_version(repository):
+    """The version is that of the program that runs: of which commit, sources and kit, and whether the sources here are others."""
+    fill_dist(repository)
+    with open(repository.at("dist/MANIFEST"), encoding="utf-8") as file:
+        sums = {line.split()[0]: line.split()[4][:12] for line in file}
+
+    def expect(what, commit, note, script="m11", version=VERSION, sources=None):
+        wanted = f"{script} {version}, commit {commit}, sources {sources or sums[script]} ({note}), kit kit-1 logic 1\n"
+        repository.expect(what, repository.run(["--version"], script, has_rt=False), (0, wanted, ""))
+
+    others = "those here are others: ./prove builds them"
+    for script in PROGRAMS:
+        expect("without git", "unknown", "those here", script)
+    commit = make_commit(repository)
+    expect("with git", commit, "those here")
     put(repository.at("docs/man/m11.1"), "other\n")
-    repository.expect("changed, and without rt", repository.run(["--version"], has_rt=False)[1], f"m11: commit {commit}-dirty, kit kit-1 logic 1\n")
+    expect("with another page", commit + "-dirty", "those here")
+    put(repository.at("crates/m11_dumper/src/main.rt"), "new\n")
+    expect("an edit of another", commit + "-dirty", "those here")
+    expect("an edit", commit, others, "m11-dump")
+    repository.expect_proof("the edit", 2)
+    put(repository.at("crates/m11_dumper/src/main.rt"), "newer\n")
+    with open(repository.at("out/MANIFEST"), encoding="utf-8") as file:
+        sums["m11-dump"] = next(line.split()[4][:12] for line in file if line.startswith("m11-dump "))
+    expect("what was built here", commit + "-dirty", others, "m11-dump")
     repository.expect("with another word", repository.run(["--version", "x"])[1], "ran --version x\n")
 
 
 REFUSED = (
     "asm -o A.MAC A.MAC", "asm A.MAC -oA.MAC", "asm -o=A.MAC A.MAC", "asm --output=A.MAC A.MAC", "asm --output ./A.MAC A.MAC", "asm -o LINK A.MAC",
     "asm -o HARD A.MAC", "asm -o N -l A.MAC B.MAC A.MAC", "asm -o N -l N A.MAC", "asm -o N --listing=./N A.MAC", "asm -o B.MAC -l B.MAC A.MAC",
-    "asm -o N -l DANGLING A.MAC", "asm -o A.MAC -- A.MAC", "link -o A.MAC B.MAC A.MAC", "link -b 2000 -m A.MAC -o N A.MAC", "link -o N -m N A.MAC",
+    "asm -o N -l DANGLING A.MAC", "asm -o N -l bin/../N A.MAC", "asm -o A.MAC -- A.MAC", "link -o A.MAC B.MAC A.MAC", "link -b 2000 -m A.MAC -o N A.MAC", "link -o N -m N A.MAC",
 )
 TAKEN = (
     "asm -o N A.MAC", "asm -o N -l M A.MAC", "asm -o /dev/null -l /dev/null A.MAC", "asm -o N /dev/null", "asm -o /dev/null /dev/null", "asm -o B.MAC A.MAC A.MAC",
@@ -125,6 +152,7 @@ TAKEN = (
 
 def check_paths(repository):
     """An output that is also an input or another output is refused before anything runs."""
+    fill_dist(repository)
     for name in ("A.MAC", "B.MAC"):
         put(os.path.join(repository.folder, name), "text\n")
     os.symlink("A.MAC", os.path.join(repository.folder, "LINK"))
@@ -133,11 +161,10 @@ def check_paths(repository):
     for words in REFUSED:
         status, out, said = repository.run(words.split())
         repository.expect(words, (status, out, said.count("\n"), said.startswith("m11: the ")), (2, "", 1, True))
-    repository.expect("builds", repository.builds(), 0)
     repository.expect("a sentence", repository.run(["asm", "-o", "N", "-l", "./N", "A.MAC"])[2], "m11: the object N and the listing ./N would be one file\n")
     repository.expect("another", repository.run(["link", "-o", "LINK", "A.MAC"])[2], "m11: the tape LINK would be written over the object A.MAC\n")
     for words in TAKEN:
-        repository.expect(words, repository.run(words.split())[:2], (4, f"ran {words}\n"))
+        repository.expect(words, repository.run(words.split()), (4, f"ran {words}\n", ""))
 
 
 def check_completion(repository):
@@ -179,5 +206,5 @@ def check_trace_completion(repository):
         repository.expect(f"after {words}", (" ".join(sorted(said.stdout.split())), said.stderr), (wanted, ""))
 
 
-CHECKS = checks(check_builds, check_dump, check_copies, check_owners, check_version, check_paths, check_completion, check_dump_completion,
-                check_trace_completion)
+CHECKS = checks(check_programs, check_calls, check_machines, check_time, check_version, check_paths, check_completion, check_dump_completion,
+                check_trace_completion, of="scripts")
