@@ -1,8 +1,9 @@
 #!/usr/bin/env python3
 """Runs the tests of tools/adapt, tools/lines, tools/unmac, tools/unlib, tools/release, tools/mistakes and tools/names, and of the scripts at
-the top: python3 tools/test.py [NAME]...
+the top: python3 tools/test.py [--part K/N] [NAME]...
 
-A NAME selects all tests whose names begin with it, such as page-. Each file NAME.case of tools/tests is a case. Its parts begin with a word at the
+A NAME selects all tests whose names begin with it, such as page-, and --part the K-th, the K+N-th and so on of them. A test whose command the machine
+lacks is skipped, which is said. Each file NAME.case of tools/tests is a case. Its parts begin with a word at the
 beginning of a line, and their lines with `|`:
   words ..        arguments of adapt besides -o OUT and the sources
   file NAME       a file beside the sources
@@ -17,6 +18,7 @@ beginning of a line, and their lines with `|`:
 The page on tools, tools/README.md, lists the other tests, which are programs in tools/tests."""
 import glob
 import os
+import shutil
 import subprocess
 import sys
 import tempfile
@@ -30,8 +32,9 @@ sys.path.insert(0, HERE)
 import pasm  # noqa: E402
 from adapting.main import adapt  # noqa: E402
 from adapting.names import INSTRUCTIONS  # noqa: E402
-from tests import builds, coming, disassembly, examples, flags, floating, libraries, mistakes, ntype, releases, scripts, texts  # noqa: E402
+from tests import checking, coming, disassembly, examples, flags, floating, libraries, mistakes, ntype, proving, releases, scripts, texts  # noqa: E402
 
+MODULES = (scripts, proving, checking, releases, examples, coming, disassembly, mistakes, texts, floating, ntype, flags, libraries)
 PARTS = ("words", "file", "source", "after", "map", "reports", "status", "flagged", "equal", "messages", "turned")
 
 
@@ -301,22 +304,42 @@ def check_names():
     return wrong
 
 
-def main(names):
+def all_tests():
+    """The tests, each as its name, its function, and the arguments of that."""
     tests = [(os.path.basename(path)[:-5], check_case, (path,)) for path in sorted(glob.glob(os.path.join(HERE, "tests", "*.case")))]
     tests += [("codes-of-instructions", check_codes, ()), ("sources-that-are-taken", check_taken, ()), ("refusals", check_refusals, ()),
               ("objects-of-a-link", check_objects, ()), ("page-names", check_names, ())]
-    tests += scripts.CHECKS + builds.CHECKS + releases.CHECKS + examples.CHECKS + coming.CHECKS + disassembly.CHECKS + mistakes.CHECKS + texts.CHECKS + floating.CHECKS + ntype.CHECKS + flags.CHECKS + libraries.CHECKS
-    passed = failed = 0
+    for module in MODULES:
+        tests += module.CHECKS
+    return tests
+
+
+# The beginnings of names of tests that need a command which a machine may lack.
+NEEDS = (("page-examples-modules", "make"), ("page-", "git"), ("scripts-version", "git"), ("release-release", "git"))
+
+
+def lacking(name):
+    """The command that a test needs and that isn't there, if there is one."""
+    return next((command for begin, command in NEEDS if name.startswith(begin) and shutil.which(command) is None), None)
+
+
+def main(words):
+    part, of = (int(number) for number in words[1].split("/")) if words[:1] == ["--part"] else (1, 1)
+    names = words[2:] if of > 1 else words
+    tests = [test for test in all_tests() if not names or test[0].startswith(tuple(names))][part - 1::of]
+    passed = failed = skipped = 0
     for name, check, given in tests:
-        if names and not name.startswith(tuple(names)):
+        if lacking(name):
+            print(f"{name}: skipped: there is no {lacking(name)}")
+            skipped += 1
             continue
         wrong = check(*given)
         passed += not wrong
         failed += bool(wrong)
         for text in wrong:
             print(f"{name}: {text}")
-    print(f"{passed} passed, {failed} failed")
-    return 1 if failed or not passed else 0
+    print(f"{passed} passed, {failed} failed" + (f", {skipped} skipped" if skipped else ""))
+    return 1 if failed or not tests else 0
 
 
 if __name__ == "__main__":

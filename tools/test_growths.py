@@ -10,7 +10,7 @@ read instead. A source and an object have a buffer in each of two passes, and a 
 
 The expected output of a command is that of a case of the suite, or of bench/reading/pasm.py for a source. PROGRAM is the program itself, since a
 script that becomes it asks for memory of its own. For each command it prints the number of refused calls. The last line is `N passed, M failed`,
-and the status is 1 if one failed, or if there is no cc."""
+and the status is 1 if one failed. Without cc all of them are skipped, which it says."""
 import dataclasses
 import importlib.util
 import itertools
@@ -186,8 +186,9 @@ def main(words):
     program, read_case = os.path.abspath(words[0]), reader_of_cases()
     commands = [of_case(read_case, *row) for row in OF_CASES] + [of_source(*row) for row in OF_SOURCES]
     if shutil.which("cc") is None:
-        print(f"there is no cc on the PATH, a C compiler, which has to compile bench/refusing/refuse.c\n0 passed, {len(commands)} failed")
-        return 1
+        print("growths: skipped: there is no cc, which has to compile bench/refusing/refuse.c")
+        print(f"0 passed, 0 failed, {len(commands)} skipped")
+        return 0
     failed = 0
     with tempfile.TemporaryDirectory() as folder:
         library = library_in(Path(folder))
