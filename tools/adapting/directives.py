@@ -3,7 +3,7 @@ import os
 
 from .names import CANNOT, CONDITIONS, LISTED, NO_LINES, ONE_WORD, OPENERS, REWRITTEN, SECTIONS, TAKEN, WHY_NOT, WITHOUT_BYTES, six
 from .names import DIRECTIVES, INSTRUCTIONS, TEXT_CONDITIONS
-from .scan import BLANKS, NAME, WIDTH, Statement, actual_end, actuals, change, skip_blanks, tokens, with_brackets
+from .scan import BLANKS, NAME, WIDTH, Statement, actual_end, actuals, change, skip_blanks, tokens
 
 
 def operands(text, at):
@@ -139,7 +139,7 @@ def cannot(reader, line, statement):
 
 def one_word_condition(reader, line, statement):
     reader.branches.append(reader.new_branch())
-    text = with_brackets(line.text, statement.b, TEXT_CONDITIONS.get(ONE_WORD[statement.op], 0))
+    text = reader.with_brackets(line, statement.b, TEXT_CONDITIONS.get(ONE_WORD[statement.op], 0))
     reader.write(line, change(text, [(statement.a, statement.b, ".IF " + ONE_WORD[statement.op])]))
 
 
@@ -147,7 +147,7 @@ def renamed_condition(reader, line, statement):
     """The text with the new name of its condition, if it has an old one."""
     found = NAME.match(line.text, skip_blanks(line.text, statement.b))
     if found and six(found.group()) in TEXT_CONDITIONS:
-        return with_brackets(line.text, found.end(), TEXT_CONDITIONS[six(found.group())])
+        return reader.with_brackets(line, found.end(), TEXT_CONDITIONS[six(found.group())])
     if found and six(found.group()) in CONDITIONS and six(found.group()) not in reader.formals():
         return change(line.text, [(found.start(), found.end(), CONDITIONS[six(found.group())])])
     return line.text
@@ -225,7 +225,7 @@ def inner_statement(line, statement):
 
 def count_of_characters(reader, line, statement):
     found = NAME.match(line.text, skip_blanks(line.text, statement.b))
-    reader.write(line, with_brackets(line.text, found.end(), 1) if found else line.text)
+    reader.write(line, reader.with_brackets(line, found.end(), 1) if found else line.text)
 
 
 # Sections

@@ -2,7 +2,7 @@
 import re
 
 from .names import CLOSERS, OPENERS, SECTIONS, TEXTS, six
-from .scan import NAME, Statement, actual_end, actuals, change, names_in, skip_blanks, tokens
+from .scan import DELIMITED, NAME, Statement, actual_end, actuals, are_paired, change, names_in, skip_blanks, tokens
 
 
 class Formal:
@@ -21,6 +21,10 @@ class Macro:
 
     def shape(self):
         return [(formal.name, formal.default) for formal in self.formals]
+
+    def enclosed(self):
+        """The names that its body has in a text `^/text/`, which gets brackets."""
+        return {name for statement in self.body for _, inside in DELIMITED.findall(statement.text) for name in names_in(inside)}
 
 
 def formals_of(text, at):
@@ -103,6 +107,7 @@ class Call:
             else:
                 slots[place] = self._bracket(word)
                 place += 1
+        self._enclosed(slots, names)
         self._defaults(slots, outer, filled)
         if not self.changed or self.wrong:
             return self.text
@@ -119,10 +124,16 @@ class Call:
         if len(word) < 3 or word[0] != "^" or word[1].isalnum() or word[-1] != word[1]:
             return word
         inside = word[2:-1]
-        if inside.count("<") != inside.count(">"):
+        if not are_paired(inside):
             self.wrong = f"the actual {word} has a bracket without its other one"
         self.changed = True
         return "<" + inside + ">"
+
+    def _enclosed(self, slots, names):
+        """An actual with a lone bracket, where the body puts brackets around it."""
+        for place, word in slots.items():
+            if place < len(names) and not are_paired(word) and names[place] in self.macro.enclosed():
+                self.wrong = f"the actual {word} has a bracket without its other one, and {self.macro.name} has {names[place]} in a text that gets brackets"
 
     def _defaults(self, slots, outer, filled):
         for place, formal in enumerate(self.macro.formals):

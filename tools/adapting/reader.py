@@ -5,7 +5,7 @@ from . import directives
 from .capitals import in_capitals
 from .macros import Call, Formal, Libraries, Macro, formals_of, reaches, restores, switches, used_across_sections
 from .names import CLOSERS, DIRECTIVES, INSTRUCTIONS, ONE_WORD_CODES, OPENERS, OTHER_MODELS, six
-from .scan import NAME, TOO_LONG, WIDTH, Line, Statement, change, fitted, names_in, with_brackets
+from .scan import NAME, SPACED_LABEL, TOO_LONG, WIDTH, Line, Statement, change, fitted, names_in, with_brackets
 
 
 class Body:
@@ -71,6 +71,13 @@ class Reader:
         self.reports.report(line, sentence)
         self.emit(line)
 
+    def with_brackets(self, line, at, count):
+        """The text of a line, with brackets around actuals that have other ends. One that can't have them is reported, and stays."""
+        text, wrong = with_brackets(line.text, at, count)
+        if wrong:
+            self.reports.report(line, f"the text {wrong} has a bracket without its other one, so it can't stand in brackets; m11 reads it otherwise")
+        return text
+
     # Going through lines
 
     def read_source(self, path, index):
@@ -104,6 +111,9 @@ class Reader:
             if text != line.text:
                 self.in_capitals[self.held["LC"]] = self.in_capitals.get(self.held["LC"], 0) + 1
                 line, statement = line.with_text(text), Statement(text)
+        while self.is_apart(line, statement):
+            text = line.text[:statement.a] + SPACED_LABEL.sub(r"\1\2", line.text[statement.a:], count=1)
+            line, statement = line.with_text(text), Statement(text)
         if self.bodies and self.bodies[-1].macro:
             for body in self.bodies:
                 if body.macro:
@@ -123,6 +133,14 @@ class Reader:
         if rule and op not in self.missing:
             return rule(self, line, statement)
         self.unknown(line, statement)
+
+    def is_apart(self, line, statement):
+        """Whether a line begins with a label whose colon stands apart from it, and not with an operator before a text."""
+        if not SPACED_LABEL.match(line.text, statement.a) or statement.kind == "assignment":
+            return False
+        op = statement.op
+        known = op in DIRECTIVES or op in INSTRUCTIONS or op in OTHER_MODELS or directives.rule_of(op) or op in self.libraries.bodies
+        return not (statement.kind == "operator" and (known or self.candidates(op)))
 
     def take(self, op, line):
         """Puts the macro of an operator before a line, if it comes without .MCALL."""
@@ -182,7 +200,7 @@ class Reader:
                 text = line.text
         elif statement.op in (".IRP", ".IRPC") and found:
             formals = [Formal(six(found.group()), False, None)]
-            text = with_brackets(line.text, found.end(), 1)
+            text = self.with_brackets(line, found.end(), 1)
         names = self.formals() | {formal.name for formal in formals}
         filled = self.filled() | {formal.name for formal in formals if formal.default or formal.created}
         self.bodies.append(Body(macro, names, filled, len(self.branches)))

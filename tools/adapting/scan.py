@@ -5,9 +5,13 @@ from .names import six
 
 NAME = re.compile(r"[A-Za-z0-9$.]+")
 LABEL = re.compile(r"[ \t\f]*([A-Za-z0-9$.][A-Za-z0-9$.']*)(::?)(?!=)")
+# A label whose colon stands apart from it.
+SPACED_LABEL = re.compile(r"([A-Za-z0-9$.][A-Za-z0-9$.']*)[ \t\f]+(::?)(?!=)")
 ASSIGNMENT = re.compile(r"[ \t\f]*([A-Za-z$.][A-Za-z0-9$.]*)[ \t\f]*(==?:?)")
 OPERATOR = re.compile(r"[ \t\f]*([A-Za-z$.][A-Za-z0-9$.]*)")
 LOCAL = re.compile(r"[0-9]+\$$")
+# A text between any two equal characters, `^/text/`.
+DELIMITED = re.compile(r"\^([^A-Za-z0-9 \t;,])(.*?)\1")
 BLANKS = " \t\f"
 # How many characters of a line m11 reads.
 WIDTH = 132
@@ -110,8 +114,8 @@ def actual_end(text, at):
     if text[at:at + 1] == "<":
         return bracket_end(text, at)
     if text[at:at + 1] == "^" and at + 1 < len(text) and text[at + 1] not in " \t;," and not text[at + 1].isalnum():
-        close = text.find(text[at + 1], at + 2)
-        return None if close < 0 else close + 1
+        found = DELIMITED.match(text, at)
+        return found.end() if found else None
     keyword = re.compile(r"[A-Za-z$.][A-Za-z0-9$.]*=").match(text, at)
     if keyword and text[keyword.end():keyword.end() + 1] in ("<", "^"):
         return actual_end(text, keyword.end())
@@ -139,30 +143,31 @@ def actuals(text, at):
     return out, at
 
 
-def delimited(text, at):
-    """The actual `^/text/` at a column as `<text>`, or None if there is none or it can't be written so."""
-    if text[at:at + 1] != "^" or at + 1 >= len(text) or text[at + 1].isalnum() or text[at + 1] in " \t;,":
-        return None
-    end = actual_end(text, at)
-    inside = text[at + 2:end - 1] if end else ""
-    if end is None or inside.count("<") != inside.count(">"):
-        return None
-    return at, end, f"<{inside}>"
+def are_paired(text):
+    """Whether each bracket of a text has its other one, so that the text can stand in brackets."""
+    depth = 0
+    for char in text:
+        depth += (char == "<") - (char == ">")
+        if depth < 0:
+            return False
+    return depth == 0
 
 
 def with_brackets(text, at, count):
-    """The text, in which up to `count` actuals from a place on have brackets in place of `^/` and `/`."""
-    edits = []
+    """The text, in which up to `count` actuals from a place on have brackets in place of `^/` and `/`; and the first of them that can't, or None."""
+    edits, wrong = [], None
     for _ in range(count):
         at = skip_blanks(text, at)
         at = skip_blanks(text, at + 1) if text[at:at + 1] == "," else at
-        edit = delimited(text, at)
-        edits += [edit] if edit else []
         end = actual_end(text, at)
         if end is None:
             break
+        if DELIMITED.match(text, at) and are_paired(text[at + 2:end - 1]):
+            edits.append((at, end, f"<{text[at + 2:end - 1]}>"))
+        elif DELIMITED.match(text, at):
+            wrong = wrong or text[at:end]
         at = end
-    return change(text, edits)
+    return change(text, edits), wrong
 
 
 def change(text, edits):

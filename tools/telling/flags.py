@@ -25,6 +25,9 @@ BRANCHES = set("BR BNE BEQ BGE BLT BGT BLE BPL BMI BHI BLOS BVC BVS BCC BCS BHIS
 # How many words a branch reaches back and on from the word behind it.
 REACH, REACH_OF_SOB = (128, 127), (63, 0)
 OTHER_BLOCK = "{0} is in another block: see .ENABL LSB"
+NOWHERE = "{0} is defined nowhere"
+# The least number of a local symbol that an expansion creates.
+FIRST_CREATED = 64
 TOO_FAR = "branch out of reach by {0} word{1}"
 OTHER_SECTION = "branch to another section"
 BRANCH = "branch out of reach, or to what isn't in its section"
@@ -55,10 +58,18 @@ def read_listing(text):
     return lines, flagged
 
 
+def local_labels(texts):
+    """The local symbols that are labels of sources; None if macros put a label together, so that it isn't in their text."""
+    found = {name for text in texts for line in text.split("\n") for name, _, _ in Statement(line).labels}
+    return None if any("'" in name for name in found) else {six(name) for name in found if name[0].isdigit()}
+
+
 class Flags:
     """Words for the flags of messages, which come in the order of the flagged lines of a listing."""
 
-    def __init__(self, listing=None):
+    def __init__(self, labels, listing=None):
+        """Of sources with these local labels, or None if those aren't known; and with a listing."""
+        self.labels = labels
         self.lines, flagged = read_listing(listing) if listing is not None else ([], [])
         self.flagged = iter(flagged)
 
@@ -73,7 +84,7 @@ class Flags:
         if branches:
             known = {"A": self.branch(statement, place)}
         if name and "U" in flags:
-            known = {"U": OTHER_BLOCK.format(name), **({"A": ""} if branches else {})}
+            known = {"U": (NOWHERE if self.is_nowhere(name) else OTHER_BLOCK).format(name), **({"A": ""} if branches else {})}
         meanings = [known.get(flag, MEANINGS.get(flag, "")) for flag in flags]
         return "; ".join(words for words in meanings if words)
 
@@ -83,6 +94,10 @@ class Flags:
             return None
         found = [statement.text[begin:end] for kind, begin, end in tokens(statement.text, statement.b) if kind == "local"]
         return found[0] if found else None
+
+    def is_nowhere(self, name):
+        """Whether no line of the sources, nor of an expansion, has a local symbol as its label."""
+        return self.labels is not None and six(name) not in self.labels and int(name[:-1]) < FIRST_CREATED
 
     def branch(self, statement, place):
         """Why a branch has an A."""

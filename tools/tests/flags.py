@@ -11,6 +11,7 @@ import pasm
 
 LINES = os.path.join(os.path.dirname(os.path.dirname(os.path.realpath(__file__))), "lines")
 BLOCK = "20$ is in another block: see .ENABL LSB"
+NOWHERE = "3$ is defined nowhere"
 ALLOWED = "a value, an argument or an attribute that isn't allowed here, or none"
 KNOWN = "a name that isn't known, or that comes too late"
 LEFT = "something is missing, or left over, as behind an operator that isn't known"
@@ -26,6 +27,8 @@ SOURCE = (
     ("\tBR\t1$", "A", BRANCH, "branch out of reach by 74 words"),
     ("B:\tBR\t20$", "AU", BLOCK, BLOCK),
     ("\tMOV\t20$,R0", "U", BLOCK, BLOCK),
+    ("\tTST\t3$", "U", NOWHERE, NOWHERE),
+    ("\tBR\t3$", "AU", NOWHERE, NOWHERE),
     ("\tBR\tX", "AU", f"{BRANCH}; {KNOWN}", f"{BRANCH}; {KNOWN}"),
     ("\tBR\tD", "A", BRANCH, BRANCH),
     ("\t.REPT\t2",),
