@@ -5,8 +5,8 @@ The library bench/refusing/refuse.c, which cc compiles, is loaded before the C l
 from the beginning of main. Each command below runs with the calls 1, 2 and so on refused, one in each run and each in a new folder, until a run
 makes fewer calls: that run must write the whole output of the command. Each run before it must end with status 5. The bytes that it wrote before
 the refusal are a beginning of each output, and after the refusal it reports only a line of NoMemory: that of USAGE while words are read and no
-output exists yet, later that of the command. If the buffer of a file that is read was refused, it must end with status 3 and the line of a failed
-read instead. A source and an object have a buffer in each of two passes, and a tape has one.
+output exists yet, later that of the command. If the buffer of a file that is read was refused, the file is read without it, and the run must write the
+whole output. A source and an object have a buffer in each of two passes, and a tape has one.
 
 The expected output of a command is that of a case of the suite, or of bench/reading/pasm.py for a source. PROGRAM is the program itself, since a
 script that becomes it asks for memory of its own. For each command it prints the number of refused calls. The last line is `N passed, M failed`,
@@ -33,8 +33,8 @@ from calls import library_in  # noqa: E402
 SECONDS = 60
 USAGE = b"?M11 USAGE 90 NoMemory\n"
 
-# The lines of a failed read, and how often each file is read, by the command.
-READS = {"asm": (b"?M11 ASM 1 Read\n", 2), "link": (b"?M11 LINK 1 Read\n", 2), "sim": (b"?M11 SIM 1 Device\n", 1)}
+# How often each file is read, by the command.
+PASSES = {"asm": 2, "link": 2, "sim": 1}
 
 # The library's message about the refused call, and the messages before and after it.
 REFUSAL = re.compile(rb"(.*?)refused [a-z]+ of [0-9]+ bytes\n(.*)", re.DOTALL)
@@ -134,13 +134,13 @@ def run_of(program, library, command, number):
         return Left(done.returncode, done.stdout, done.stderr, {path.name: path.read_bytes() for path in Path(folder).iterdir()})
 
 
-def is_right(command, left, status, said, has_begun):
-    """Whether the result of a run with a refused call, which had printed a text before that, has this status and is allowed: beginnings, and nothing
+def is_right(command, left, said, has_begun):
+    """Whether the result of a run with a refused call, which had printed a text before that, has status 5 and is allowed: beginnings, and nothing
     before its command has begun."""
     most = command.whole if has_begun else Left(None, b"", b"", command.files)
     are_as_before = all(left.files.get(name) == content for name, content in command.files.items())
     are_beginnings = all(most.files.get(name, b"").startswith(content) for name, content in left.files.items())
-    return (left.status == status and most.err.startswith(said) and most.out.startswith(left.out)
+    return (left.status == 5 and most.err.startswith(said) and most.out.startswith(left.out)
             and are_as_before and are_beginnings and left.files.keys() <= most.files.keys())
 
 
@@ -153,26 +153,25 @@ def shown(left):
 def refuse_each(program, library, command):
     """Refuses each call of a command. Returns how many were refused while words were read, how many after that, and the errors found."""
     line_of_command = f"?M11 {command.words[0].upper()} 90 NoMemory\n".encode()
-    line_of_read, passes = READS[command.words[0]]
-    counts, reads, wrong, has_begun = [0, 0], 0, [], False
+    counts, unbuffered, wrong, has_begun = [0, 0], 0, [], False
     for number in itertools.count(1):
         left = run_of(program, library, command, number)
         refusal = REFUSAL.fullmatch(left.err)
         if refusal is None:
             break
         said, line = refusal.groups()
-        is_read = line == line_of_read
-        reads += is_read
-        has_begun = has_begun or is_read or line == line_of_command
+        is_whole = dataclasses.replace(left, err=said + line) == command.whole
+        unbuffered += is_whole
+        has_begun = has_begun or is_whole or line == line_of_command
         counts[has_begun] += 1
-        allowed = line_of_read if is_read else line_of_command if has_begun else USAGE
-        if line != allowed or not is_right(command, left, 3 if is_read else 5, said, has_begun):
+        allowed = line_of_command if has_begun else USAGE
+        if not is_whole and (line != allowed or not is_right(command, left, said, has_begun)):
             wrong.append(f"call {number} leaves {shown(left)}")
     if left != command.whole:
         wrong.append(f"without a refusal it leaves {shown(left)}, and not the texts and bytes of {shown(command.whole)}")
-    buffers = passes * sum(word in command.files for word in command.words)
-    if reads != buffers:
-        wrong.append(f"{reads} calls led to a failed read, and not {buffers}")
+    buffers = PASSES[command.words[0]] * sum(word in command.files for word in command.words)
+    if unbuffered != buffers:
+        wrong.append(f"{unbuffered} refused calls changed nothing, and not {buffers}")
     if 0 in counts:
         wrong.append("no call was refused while words are read, or none after that")
     return counts, wrong
