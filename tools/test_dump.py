@@ -486,9 +486,15 @@ CASES = (
     ("a load map of too many bytes", "-m A.OBJ", {"A.OBJ": b"\0" * 4_194_305}, 6, "", "?M11 DUMP 13 TooMuch OF A.OBJ\n"),
     ("a load map of a folder", "-m A.OBJ B", {"A.OBJ": FIRST + REST, "B/A.OBJ": b""}, 3, "", "?M11 DUMP 1 Read OF B\n"),
     ("a load map without a file", "-m A.OBJ B.OBJ C.OBJ", {"A.OBJ": TEXT}, 3, "", "?M11 OPEN B.OBJ\n"),
-    ("a bottom that is no octal word", "-m -b 8 A.OBJ", PAIR, 2, "", "?M11 USAGE 3 BadOctal\n"),
-    ("an odd bottom", "-m -b 1001 A.OBJ", PAIR, 2, "", "?M11 USAGE 4 OddAddress\n"),
-    ("a bottom among devices, and no map", "-b 160000 A.OBJ", PAIR, 2, "", "?M11 USAGE 5 BadAddress\n"),
+    ("a bottom that is no octal word", "-m -b 8 A.OBJ", PAIR, 2, "", "?M11 USAGE 3 BadOctal OF -b 8\n"),
+    ("an odd bottom", "-m -b 1001 A.OBJ", PAIR, 2, "", "?M11 USAGE 4 OddAddress OF -b 1001\n"),
+    ("a bottom among devices, and no map", "-b 160000 A.OBJ", PAIR, 2, "", "?M11 USAGE 5 BadAddress OF -b 160000\n"),
+    ("a bad bottom by its long name", "--bottom=ABC A.OBJ", PAIR, 2, "", "?M11 USAGE 3 BadOctal OF -b ABC\n"),
+    ("a bad bottom by its long name, after the file", "A.OBJ --bottom 0000001", PAIR, 2, "", "?M11 USAGE 4 OddAddress OF -b 0000001\n"),
+    ("a bad bottom joined to its letter, and no file", "-d -b200000 NONE.OBJ", {}, 2, "", "?M11 USAGE 3 BadOctal OF -b 200000\n"),
+    ("a bottom with a blank", ("-b", "1 000", "A.OBJ"), PAIR, 2, "", "?M11 USAGE 3 BadOctal OF -b 1 000\n"),
+    ("a bottom of other characters", ("-m", "--bottom", "é", "A.OBJ"), PAIR, 2, "", "?M11 USAGE 3 BadOctal OF -b é\n"),
+    ("an empty bottom", ("-b", "", "A.OBJ"), PAIR, 2, "", "?M11 USAGE 3 BadOctal OF -b \n"),
     ("a bottom, and no map", "-b 2000 A.OBJ", {"A.OBJ": b""}, 0, "OBJECT A.OBJ\n", ""),
 )
 
@@ -501,11 +507,12 @@ def put(folder, path, content):
 
 
 def check(program, words, files):
-    """The status and the output of a call with these files."""
+    """The status and the output of a call with these files. The words are a tuple where one has a blank or is empty."""
     with tempfile.TemporaryDirectory() as folder:
         for path, content in files.items():
             put(folder, path, content)
-        done = subprocess.run([program, *words.split()], cwd=folder, stdin=subprocess.DEVNULL, capture_output=True, timeout=60, check=False)
+        given = words.split() if isinstance(words, str) else words
+        done = subprocess.run([program, *given], cwd=folder, stdin=subprocess.DEVNULL, capture_output=True, timeout=60, check=False)
         return done.returncode, done.stdout.decode(), done.stderr.decode()
 
 

@@ -124,7 +124,7 @@ MAPS = {
 NAMES = {"001000": "MAIN", "001004": "LOOP", "001006": "LOOP+2", "001010": "WAIT", "001014": "WAIT+4", "001016": "WAIT+6", "001022": "WAIT+12", "001024": "WAIT+14"}
 NAMED = [re.sub("\t([0-7]{6})\t", lambda found: f"\t{found[1]} {NAMES[found[1]]}\t", line, count=1) for line in LINES]
 
-# The words, the tape, and the status, the output and the lines.
+# The words, the tape, and the status, the output and the lines. The words are a tuple where one has a blank or is empty.
 CHECKS = (
     ("each step", "HI.TAP", TAPE, 0, "H\n", "".join(LINES) + END),
     ("from a step on", "-f 15 HI.TAP", TAPE, 0, "H\n", "".join(LINES[14:]) + END),
@@ -139,13 +139,13 @@ CHECKS = (
     ("a start that is the first time", "-p 1000:+01 HI.TAP", TAPE, 1, "", "REACHED AFTER 0 STEPS\n" + NONE),
     ("places that count for themselves", "-f 4 -p 1002:3 -p 1000:4 -p 1002:2 HI.TAP", LOOP, 1, "", "1\t001000\tINC    R0\tR0 000001\n2\t001002\tBR     1000\n3\t001000\tINC    R0\tR0 000002\nREACHED AFTER 3 STEPS\n" + registers("000002", "000000", "001002", "000000")),
     ("a place that is reached less often", "-f 16 -p 1004:4 HI.TAP", TAPE, 0, "H\n", LINES[15] + END),
-    ("a place at no time", "-p 1000:0 HI.TAP", TAPE, 2, "", "?M11 USAGE 6 BadCount\n"),
-    ("a place without its time", "-p 1000: HI.TAP", TAPE, 2, "", "?M11 USAGE 6 BadCount\n"),
-    ("too many times", "-p 1000:1000000001 HI.TAP", TAPE, 2, "", "?M11 USAGE 6 BadCount\n"),
-    ("more times than a word has", "-p 1000:99999999999999999999 HI.TAP", TAPE, 2, "", "?M11 USAGE 6 BadCount\n"),
-    ("two times of a place", "-p 1000:1:2 HI.TAP", TAPE, 2, "", "?M11 USAGE 6 BadCount\n"),
-    ("an odd place before its time", "-p 1001:0 HI.TAP", TAPE, 2, "", "?M11 USAGE 4 OddAddress\n"),
-    ("a time without a place", "-p :2 HI.TAP", TAPE, 2, "", "?M11 USAGE 3 BadOctal\n"),
+    ("a place at no time", "-p 1000:0 HI.TAP", TAPE, 2, "", "?M11 USAGE 6 BadCount OF -p 1000:0\n"),
+    ("a place without its time", "-p 1000: HI.TAP", TAPE, 2, "", "?M11 USAGE 6 BadCount OF -p 1000:\n"),
+    ("too many times", "-p 1000:1000000001 HI.TAP", TAPE, 2, "", "?M11 USAGE 6 BadCount OF -p 1000:1000000001\n"),
+    ("more times than a word has", "-p 1000:99999999999999999999 HI.TAP", TAPE, 2, "", "?M11 USAGE 6 BadCount OF -p 1000:99999999999999999999\n"),
+    ("two times of a place", "-p 1000:1:2 HI.TAP", TAPE, 2, "", "?M11 USAGE 6 BadCount OF -p 1000:1:2\n"),
+    ("an odd place before its time", "-p 1001:0 HI.TAP", TAPE, 2, "", "?M11 USAGE 4 OddAddress OF -p 1001:0\n"),
+    ("a time without a place", "-p :2 HI.TAP", TAPE, 2, "", "?M11 USAGE 3 BadOctal OF -p :2\n"),
     ("a place after the last step that is allowed", "-n 0 -p 1000 HI.TAP", TAPE, 1, "", "LIMIT AFTER 0 STEPS\n" + NONE),
     ("a limit", "-n 2 HI.TAP", TAPE, 1, "", "".join(LINES[:2]) + "LIMIT AFTER 2 STEPS\n" + registers("000110", "001027", "001006", "000000")),
     ("another start", "-s 1024 HI.TAP", TAPE, 0, "", "1\t001024\tHALT\nHALT AFTER 1 STEPS\n" + registers("000000", "000000", "001026", "000000")),
@@ -168,14 +168,14 @@ CHECKS = (
     ("a place before a word changes", "-f 3 -w 1100 -p 1012 HI.TAP", STORES, 1, "", "".join(re.sub("\t@#[0-7]{6} [0-7]{6}", "", line) for line in STORED[:2]) + "REACHED AFTER 2 STEPS\n" + NONE.replace("SP 000000 PC 001000", "SP 001000 PC 001012")),
     ("a word that doesn't change before a stop", "-f 10 -w 1104 HI.TAP", STORES, 0, "", STORED[9] + AT_STORED),
     ("a word past the memory, which never changes", "-k 4096 -n 2 -w 20000 HI.TAP", LOOP, 1, "", "1\t001000\tINC    R0\tR0 000001\n2\t001002\tBR     1000\nLIMIT AFTER 2 STEPS\n" + registers("000001", "000000", "001000", "000000")),
-    ("an odd word to watch", "-w 1101 HI.TAP", TAPE, 2, "", "?M11 USAGE 4 OddAddress\n"),
+    ("an odd word to watch", "-w 1101 HI.TAP", TAPE, 2, "", "?M11 USAGE 4 OddAddress OF -w 1101\n"),
     ("one word of memory", "-n 1 -f 2 -r 1002 HI.TAP", LOOP, 1, "",
      "1\t001000\tINC    R0\tR0 000001\nLIMIT AFTER 1 STEPS\n" + registers("000001", "000000", "001002", "000000") + "MEMORY 001002:001002\n  001002 000776\n"),
-    ("a part without an end", "-r 1000: HI.TAP", TAPE, 2, "", "?M11 USAGE 3 BadOctal\n"),
-    ("a part without a beginning", "-r :1000 HI.TAP", TAPE, 2, "", "?M11 USAGE 3 BadOctal\n"),
-    ("an odd end of a part", "-r 1000:1001 HI.TAP", TAPE, 2, "", "?M11 USAGE 4 OddAddress\n"),
-    ("an odd place", "-p 1001 HI.TAP", TAPE, 2, "", "?M11 USAGE 4 OddAddress\n"),
-    ("the start before a place", "-p 8 -s 160000 HI.TAP", TAPE, 2, "", "?M11 USAGE 5 BadAddress\n"),
+    ("a part without an end", "-r 1000: HI.TAP", TAPE, 2, "", "?M11 USAGE 3 BadOctal OF -r 1000:\n"),
+    ("a part without a beginning", "-r :1000 HI.TAP", TAPE, 2, "", "?M11 USAGE 3 BadOctal OF -r :1000\n"),
+    ("an odd end of a part", "-r 1000:1001 HI.TAP", TAPE, 2, "", "?M11 USAGE 4 OddAddress OF -r 1000:1001\n"),
+    ("an odd place", "-p 1001 HI.TAP", TAPE, 2, "", "?M11 USAGE 4 OddAddress OF -p 1001\n"),
+    ("the start before a place", "-p 8 -s 160000 HI.TAP", TAPE, 2, "", "?M11 USAGE 5 BadAddress OF -s 160000\n"),
     ("names of addresses", "-y HI.MAP HI.TAP", TAPE, 0, "H\n", "".join(NAMED) + END),
     ("names of addresses in the last steps", "-f 17 --symbols=HI.MAP HI.TAP", TAPE, 0, "H\n", "".join(NAMED) + END),
     ("a map without globals", "-y NONE.MAP -f 16 HI.TAP", TAPE, 0, "H\n", LINES[15] + END),
@@ -208,8 +208,22 @@ CHECKS = (
     ("the same two in another order", "-y HI.MAP -y OTHER.MAP -n 1 HI.TAP", TAPE, 1, "", LINES[0].replace("\t001000\t", "\t001000 MAIN\t") + "LIMIT AFTER 1 STEPS\n" + registers("000000", "001026", "001004", "000000")),
     ("a second map that is none", "-y HI.MAP -y HALF.MAP -y NO.MAP HI.TAP", TAPE, 4, "", "?M11 MAP 2 BadMap OF HALF.MAP\n"),
     ("a second map that isn't there", "-y HI.MAP -y NO.MAP -y HALF.MAP HI.TAP", TAPE, 3, "", "?M11 OPEN NO.MAP\n"),
-    ("an odd bottom", "-b 1001 HI.TAP", TAPE, 2, "", "?M11 USAGE 4 OddAddress\n"),
-    ("a part of memory before the bottom", "-b 8 -r 160000 HI.TAP", TAPE, 2, "", "?M11 USAGE 5 BadAddress\n"),
+    ("an odd bottom", "-b 1001 HI.TAP", TAPE, 2, "", "?M11 USAGE 4 OddAddress OF -b 1001\n"),
+    ("a start by its long name", "--start=ABC HI.TAP", TAPE, 2, "", "?M11 USAGE 3 BadOctal OF -s ABC\n"),
+    ("a place by its long name", "--place 1000:0 HI.TAP", TAPE, 2, "", "?M11 USAGE 6 BadCount OF -p 1000:0\n"),
+    ("a word to watch by its long name", "--watch=160000 HI.TAP", TAPE, 2, "", "?M11 USAGE 5 BadAddress OF -w 160000\n"),
+    ("a part by its long name", "HI.TAP --range 1000:ABC", TAPE, 2, "", "?M11 USAGE 3 BadOctal OF -r 1000:ABC\n"),
+    ("a bottom by its long name, and no tape", "--bottom=200000 NONE.TAP", TAPE, 2, "", "?M11 USAGE 3 BadOctal OF -b 200000\n"),
+    ("a start joined to its letter", "-s8 HI.TAP", TAPE, 2, "", "?M11 USAGE 3 BadOctal OF -s 8\n"),
+    ("a place with a blank", ("-p", "1000 : 2", "HI.TAP"), TAPE, 2, "", "?M11 USAGE 3 BadOctal OF -p 1000 : 2\n"),
+    ("an empty start", ("-s", "", "HI.TAP"), TAPE, 2, "", "?M11 USAGE 3 BadOctal OF -s \n"),
+    ("the second of three places", "-p 1000 -p 1001:2 -p 8 HI.TAP", TAPE, 2, "", "?M11 USAGE 4 OddAddress OF -p 1001:2\n"),
+    ("the second of three parts", "-r 1000:1010 -r 1000:1001 -r 8 HI.TAP", TAPE, 2, "", "?M11 USAGE 4 OddAddress OF -r 1000:1001\n"),
+    ("a place before a word to watch", "-w 8 -p 1000:x HI.TAP", TAPE, 2, "", "?M11 USAGE 6 BadCount OF -p 1000:x\n"),
+    ("a word to watch before a part", "-r 8 -w 1 HI.TAP", TAPE, 2, "", "?M11 USAGE 4 OddAddress OF -w 1\n"),
+    ("a bottom after parts", "-b 1 -r 1000 HI.TAP", TAPE, 2, "", "?M11 USAGE 4 OddAddress OF -b 1\n"),
+    ("a bad value of each option", "-b 1 -r 3 -w 5 -p 7 -s 11 HI.TAP", TAPE, 2, "", "?M11 USAGE 4 OddAddress OF -s 11\n"),
+    ("a part of memory before the bottom", "-b 8 -r 160000 HI.TAP", TAPE, 2, "", "?M11 USAGE 5 BadAddress OF -r 160000\n"),
     ("a tape that isn't there", "NONE.TAP", TAPE, 3, "", "?M11 OPEN NONE.TAP\n"),
     ("half a tape", "HI.TAP", TAPE[:9], 4, "", "?M11 SIM 2 Truncated\n"),
 )
@@ -226,7 +240,8 @@ def main():
                     continue
                 with open(os.path.join(folder, map_name), "w", encoding="latin-1", newline="") as file:
                     file.write(text)
-            done = subprocess.run([program, *words.split()], cwd=folder, stdin=subprocess.DEVNULL, capture_output=True, check=False)
+            given = words.split() if isinstance(words, str) else words
+            done = subprocess.run([program, *given], cwd=folder, stdin=subprocess.DEVNULL, capture_output=True, check=False)
         got = [done.returncode, done.stdout.decode("latin-1"), done.stderr.decode("latin-1")]
         if got != wanted:
             failed += 1

@@ -16,12 +16,13 @@ use Rattle.m11_dump.specs.declared.fault.DumpFault.TheVariants as fault
 use Rattle.m11_cli_tasks.specs.Opened.{texts}
 use Rattle.m11_cli_tasks.specs.declared.arguments.WordsFault.{WordsFault}
 use Rattle.m11_cli_tasks.specs.declared.arguments.WordsFault.TheVariants as words
-use Rattle.m11_cli_tasks.specs.declared.usage.UsageFault.{UsageFault}
-use Rattle.m11_cli_tasks.specs.declared.usage.UsageFault.TheVariants as usage
 use Rattle.m11_cli_reports.specs.Links.{link_status}
+use Rattle.m11_cli_reports.specs.Refusals.{refused_line, refused_word}
 use Rattle.m11_cli_reports.specs.Reports.{Explains, MayReport, Reports, ReportsOfWords}
 use Rattle.m11_cli_reports.specs.Runs.{tape_status}
-use Rattle.m11_cli_reports.specs.Usage.{usage_line, usage_status}
+use Rattle.m11_cli_reports.specs.Usage.{usage_status}
+use Rattle.m11_cli_reports.specs.declared.refusals.RefusedValue.{RefusedValue}
+use Rattle.m11_cli_reports.specs.declared.refusals.Refusal.TheVariants as refusal
 use Rattle.m11_dumper.specs.Lines.{stop_line}
 use Rattle.m11_dumper.specs.Mapping.{ShowsMap}
 use Rattle.m11_dumper.specs.Paths.{Plans}
@@ -30,7 +31,7 @@ use Rattle.m11_dumper.specs.declared.paths.Request.{Request}
 use Rattle.m11_dumper.specs.declared.paths.Show.{Show}
 use Rattle.m11_dumper.specs.declared.paths.Show.TheVariants.{Contents, Map}
 use Rattle.m11_dumper.specs.declared.stop.Outcome.{Outcome}
-use Rattle.m11_dumper.specs.declared.stop.Outcome.TheVariants.{Usage, Shown}
+use Rattle.m11_dumper.specs.declared.stop.Outcome.TheVariants.{Usage, Refused, Shown}
 use Rattle.m11_dumper.specs.declared.stop.Stop.{Stop}
 use Rattle.m11_dumper.specs.declared.stop.Stop.TheVariants.{NotOpened, InFile, InObject, InMap, NoSymbols, Write, NoMemory}
 
@@ -63,16 +64,14 @@ stop_status NoMemory = 5
 
 abbrev pub status_of : Outcome → ℕ
 status_of (Usage fault) = usage_status fault
+status_of Refused = 2
 status_of (Shown (Ok done)) = 0
 status_of (Shown (Err stop)) = stop_status stop
 
--- what is written if a command line is refused: help is printed, and a refusal reported, in the parser's words; a bad bottom is reported in
--- a line, and lack of memory isn't reported
-abbrev pub Refuses : UsageFault → OutputState → OutputState → OutputState → OutputState → Type 0
-Refuses usage.BadOctal out out' err err' = (out' ≡ out) × Reports (usage_line usage.BadOctal) err err'
-Refuses usage.OddAddress out out' err err' = (out' ≡ out) × Reports (usage_line usage.OddAddress) err err'
-Refuses usage.BadAddress out out' err err' = (out' ≡ out) × Reports (usage_line usage.BadAddress) err err'
-Refuses fault out out' err err' = Explains fault out out' err err'
+-- a value of a command line is refused, and the line that names it is reported
+abbrev pub RefusesValue : List Text → OutputState → OutputState → Type 0
+RefusesValue words err err' = (value : RefusedValue) × Plans words (Err (refusal.Value value))
+    × Reports (refused_line (refused_word value)) err err'
 
 -- the report after showing: none if all files were shown; otherwise the reason why not, unless memory was refused for its line
 abbrev pub Says : Result (Unit {0}) Stop → OutputState → OutputState → Type 0
@@ -86,11 +85,12 @@ Shows text faults (Contents look) bottom names files paths out out' result =
     ShowsNamed text faults look bottom names files paths out out' result
 Shows text faults Map bottom names files paths out out' result = ShowsMap text faults bottom files paths out out' result
 
--- the command line is refused, or asks for help; or the files at its paths, or their load map, are shown, and the reason for stopping
--- early, if there is one, is reported
+-- the command line is refused or asks for help, which the parser's text says; or a value of it is refused; or the files at its paths, or
+-- their load map, are shown, and the reason for stopping early, if there is one, is reported
 abbrev pub Yields : {I : Type 0} → (I → Option feed.Text) → (I → ℕ) → List Text → Option Files → Outcome → OutputState → OutputState → OutputState
     → OutputState → Type 0
-Yields text faults words files (Usage fault) out out' err err' = Plans words (Err fault) × Refuses fault out out' err err'
+Yields text faults words files (Usage fault) out out' err err' = Plans words (Err (refusal.Usage fault)) × Explains fault out out' err err'
+Yields text faults words files Refused out out' err err' = RefusesValue words err err' × (out' ≡ out)
 Yields text faults words files (Shown result) out out' err err' = (request : Request) × Plans words (Ok request)
     × Shows text faults request.show request.bottom (texts request.names.items) files (texts request.paths.items) out out' result
     × Says result err err'

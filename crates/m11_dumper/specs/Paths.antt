@@ -1,5 +1,5 @@
 -- What a command line asks for: the paths of files and what to show of them; or why it is refused. (This project's own.)
-use Rattle.std.specs.Prelude.{◌≡◌, ◌⊎◌, ℕ, Bool, false, if◌then◌else◌, List, [], Option, Some, None, Result, Ok, Err, codes, unwrap_or}
+use Rattle.std.specs.Prelude.{◌≡◌, ℕ, Bool, false, if◌then◌else◌, List, [], Option, Some, None, Result, Ok, Err, codes, unwrap_or}
 use Rattle.clap.specs.Words.{Row, Text, all_of, first_of}
 use Rattle.std.specs.Str.{bytes_eq}
 use Rattle.m11_dump.specs.declared.kind.Kind.{Kind}
@@ -11,6 +11,10 @@ use Rattle.m11_dumper.specs.declared.paths.Look.{Look}
 use Rattle.m11_dumper.specs.declared.paths.Request.{Request}
 use Rattle.m11_dumper.specs.declared.paths.Show.{Show}
 use Rattle.m11_dumper.specs.declared.paths.Show.TheVariants.{Contents, Map}
+use Rattle.m11_cli_reports.specs.Refusals.{RefusedWord, of_words, refused_word, single}
+use Rattle.m11_cli_reports.specs.declared.refusals.AddressOption.TheVariants.{Bottom}
+use Rattle.m11_cli_reports.specs.declared.refusals.RefusedValue.{RefusedValue}
+use Rattle.m11_cli_reports.specs.declared.refusals.Refusal.{Refusal}
 use Rattle.m11_cli_tasks.specs.Opened.{texts}
 use Rattle.m11_cli_tasks.specs.Plans as tasks
 use Rattle.m11_cli_tasks.specs.Tasks.{bottom_of}
@@ -41,21 +45,25 @@ look_of rows = record {
 abbrev pub show_of : List Row → Show
 show_of rows = if is_set (first_of (codes "map") rows) then Map else Contents (look_of rows)
 
--- the bottom, or its fault; it must be valid even if nothing uses it
-abbrev pub bottom_by : List Row → Result ℕ UsageFault
-bottom_by rows = bottom_of (first_of (codes "bottom") rows)
+-- the bottom, or its word if that is refused, even if nothing uses it
+abbrev pub bottom_by : List Row → Result ℕ RefusedWord
+bottom_by rows = single Bottom bottom_of (first_of (codes "bottom") rows)
 
 -- the values of an argument, in order; none if it is missing
 abbrev pub values : Text → List Row → List Text
 values argument rows = unwrap_or (all_of argument rows) []
 
--- the parsed options and files ask for this request: what to show, the bottom, the files of names, and the files to show; or the bottom has
--- this fault, or memory was refused
-abbrev pub EntriesHaveResult : List Row → Result Request UsageFault → Type 0
-EntriesHaveResult rows (Ok request) = (request.show ≡ show_of rows) × (bottom_by rows ≡ Ok request.bottom)
+-- the parsed options and files ask for this request: what to show, the bottom, the files of names, and the files to show
+abbrev pub IsRequest : List Row → Request → Type 0
+IsRequest rows request = (request.show ≡ show_of rows) × (bottom_by rows ≡ Ok request.bottom)
     × (texts request.names.items ≡ values (codes "symbols") rows) × (texts request.paths.items ≡ values (codes "files") rows)
-EntriesHaveResult rows (Err fault) = (fault ≡ NoMemory) ⊎ (bottom_by rows ≡ Err fault)
 
--- the result of a command line: what it asks for, or its fault; memory may be refused for any command line
-abbrev pub Plans : List Text → Result Request UsageFault → Type 0
-Plans words result = tasks.Plans application EntriesHaveResult words result
+-- the parsed options and files ask for this request; or the word of the bottom is refused; or memory was refused
+abbrev pub EntriesHaveResult : List Row → Result (Result Request RefusedValue) UsageFault → Type 0
+EntriesHaveResult rows (Ok (Ok request)) = IsRequest rows request
+EntriesHaveResult rows (Ok (Err value)) = bottom_by rows ≡ Err (refused_word value)
+EntriesHaveResult rows (Err fault) = fault ≡ NoMemory
+
+-- the result of a command line: what it asks for, or why it is refused; memory may be refused for any command line
+abbrev pub Plans : List Text → Result Request Refusal → Type 0
+Plans words result = tasks.Plans application EntriesHaveResult words (of_words result)

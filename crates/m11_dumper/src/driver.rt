@@ -1,7 +1,7 @@
 //! The whole work of the program, for any type that opens files and any outputs.
 
 ghost use Rattle.std.specs.Prelude.{◌≡◌, map};
-ghost use Rattle.m11_dumper.specs.Outcome.{Refuses, RefusesWords, Says, Shows, Yields, status_of};
+ghost use Rattle.m11_dumper.specs.Outcome.{RefusesWords, Says, Shows, Yields, status_of};
 ghost use Rattle.m11_dumper.specs.declared.stop.Outcome.{Outcome};
 ghost use Rattle.m11_cli_reports.specs.Reports.{words_status};
 ghost use Rattle.m11_cli_tasks.specs.Opened.{texts};
@@ -14,8 +14,8 @@ use crate::paths::{Request, Show, plan};
 use crate::stop::{Outcome, Stop, status};
 use m11_base::Sink;
 use m11_base_files::Opens;
-use m11_cli_reports::{explain, report, usage_line};
-use m11_cli_tasks::{UsageFault, WordsFault};
+use m11_cli_reports::{Refusal, explain, report, report_refused};
+use m11_cli_tasks::WordsFault;
 use std::alloc::Global;
 use std::convert::AsStr;
 
@@ -81,9 +81,13 @@ where
             say(alloc, &shown, err);
             Outcome::Shown(shown)
         }
-        Err(fault) => {
-            refuse(alloc, &fault, out, err);
+        Err(Refusal::Usage(fault)) => {
+            explain(alloc, &fault, out, err);
             Outcome::Usage(fault)
+        }
+        Err(Refusal::Value(value)) => {
+            report_refused(&value, err);
+            Outcome::Refused
         }
     }
 }
@@ -116,19 +120,5 @@ fn say<E: Sink>(alloc: Global, shown: &Result<(), Stop<'_>>, err: &mut E)
         && let Ok(line) = stop_line(alloc, stop)
     {
         report(&line, err);
-    }
-}
-
-// Writes the parser's text: help to `out`, a refusal to `err`. A bad bottom is reported on `err`; lack of memory isn't reported.
-fn refuse<O: Sink, E: Sink>(alloc: Global, fault: &UsageFault, out: &mut O, err: &mut E)
-    ensures { Refuses fault.now (output_of O.Sink out.old) (output_of O.Sink out.new)
-        (output_of E.Sink err.old) (output_of E.Sink err.new) }
-{
-    match fault {
-        UsageFault::BadOctal | UsageFault::OddAddress | UsageFault::BadAddress => {
-            report(usage_line(fault).as_bytes(), err);
-        }
-        UsageFault::Help(_) | UsageFault::Words(_) | UsageFault::BadCount | UsageFault::NoMemory =>
-            explain(alloc, fault, out, err),
     }
 }

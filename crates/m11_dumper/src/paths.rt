@@ -2,11 +2,13 @@
 
 ghost use Rattle.std.specs.Prelude.{◌≡◌, codes, map};
 ghost use Rattle.clap.specs.Words.{first_of, found_of, rows_of};
+ghost use Rattle.m11_cli_reports.specs.Refusals.{of_words};
 ghost use Rattle.m11_dumper.specs.Paths.{EntriesHaveResult, Plans, is_set, kind_by, look_of, show_of, view_by};
 
 use crate::application::application_command;
 use clap::ArgMatches;
-use m11_cli_tasks::{UsageFault, all_texts, bottom_option};
+use m11_cli_reports::{AddressOption, Refusal, single_reading};
+use m11_cli_tasks::{all_texts, bottom_option};
 use m11_dump::{Kind, View};
 use std::alloc::Global;
 use std::convert::AsStr;
@@ -45,8 +47,8 @@ pub(crate) struct Request<'a> {
 /// Reads a command line, whose first word is the program's name.
 ///
 /// Errors, in this order: `Help` or `Words`, if a word asks for help or the parser refuses the words, whichever it meets first;
-/// `BadOctal`, `OddAddress` and `BadAddress`, for a bad bottom, even if nothing uses it. `NoMemory`, if memory is refused.
-pub(crate) fn plan<'a, S: AsStr>(alloc: Global, words: &'a [S]) -> Result<Request<'a>, UsageFault>
+/// a bad bottom with its word, even if nothing uses it. `NoMemory`, if memory is refused.
+pub(crate) fn plan<'a, S: AsStr>(alloc: Global, words: &'a [S]) -> Result<Request<'a>, Refusal<'a>>
     ensures { Plans (map S.text words.entry.now) result }
 {
     let command = application_command(alloc)?;
@@ -56,11 +58,16 @@ pub(crate) fn plan<'a, S: AsStr>(alloc: Global, words: &'a [S]) -> Result<Reques
     request
 }
 
-// What the parsed options and files ask for. Errors: the fault of the bottom, or `NoMemory`.
-fn parsed_request<'a>(alloc: Global, matches: &ArgMatches<'a>) -> Result<Request<'a>, UsageFault>
-    ensures { EntriesHaveResult (rows_of (found_of matches.now)) result }
+// What the parsed options and files ask for. Errors: the word of a bad bottom, or `NoMemory`.
+fn parsed_request<'a>(alloc: Global, matches: &ArgMatches<'a>) -> Result<Request<'a>, Refusal<'a>>
+    ensures { EntriesHaveResult (rows_of (found_of matches.now)) (of_words result) }
 {
-    let bottom = bottom_option(matches)?;
+    let bottom = single_reading(
+        matches,
+        AddressOption::Bottom,
+        "bottom",
+        bottom_option(matches),
+    )?;
     let names = all_texts(alloc, matches, "symbols")?;
     let paths = all_texts(alloc, matches, "files")?;
     Ok(Request {

@@ -42,8 +42,10 @@ impl From<AllocError> for Stop<'_> {
 /// The outcome of a command line: it was refused, or its files were shown as far as that was possible.
 #[derive(Drop)]
 pub(crate) enum Outcome<'a> {
-    /// The command line is refused or asks for help, or memory was refused while it was read.
+    /// The parser refuses the command line, or help was asked for, or memory was refused while it was read.
     Usage(UsageFault),
+    /// A value of the command line is refused, which was reported.
+    Refused,
     /// All files were shown, or this is the reason why not.
     Shown(Result<(), Stop<'a>>),
 }
@@ -93,6 +95,7 @@ pub(crate) fn status(outcome: &Outcome<'_>) -> u8
 {
     match outcome {
         Outcome::Usage(fault) => usage_status(fault),
+        Outcome::Refused => 2,
         Outcome::Shown(Ok(())) => 0,
         Outcome::Shown(Err(stop)) => stop_status(stop),
     }

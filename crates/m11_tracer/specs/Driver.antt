@@ -18,12 +18,15 @@ use Rattle.m11_trace.specs.declared.ending.Ending.{Ending}
 use Rattle.m11_base_disassembly.specs.declared.symbols.Symbol.{Symbol}
 use Rattle.m11_tracer.specs.Outcome.{line_of}
 use Rattle.m11_cli_reports.specs.Lines.{open_line}
+use Rattle.m11_cli_reports.specs.Refusals.{refused_line, refused_word}
+use Rattle.m11_cli_reports.specs.declared.refusals.RefusedValue.{RefusedValue}
+use Rattle.m11_cli_reports.specs.declared.refusals.Refusal.TheVariants as refusal
 use Rattle.m11_cli_reports.specs.Reports.{Explains, Reports}
 use Rattle.m11_cli_reports.specs.Streams.{Store, Streams, devices_of}
 use Rattle.m11_cli_tasks.specs.Opened.{texts}
 use Rattle.m11_tracer.specs.Task.{Plans}
 use Rattle.m11_tracer.specs.declared.outcome.Outcome.{Outcome}
-use Rattle.m11_tracer.specs.declared.outcome.Outcome.TheVariants.{Usage, NotOpened, NoSymbols, Ran}
+use Rattle.m11_tracer.specs.declared.outcome.Outcome.TheVariants.{Usage, Refused, NotOpened, NoSymbols, Ran}
 use Rattle.m11_tracer.specs.declared.task.TraceTask.{TraceTask}
 
 -- an open tape is run as the task says, with these symbols as the names of addresses
@@ -51,6 +54,7 @@ CarriesNamed task symbols (Ran result) old new before after = RunsTape task symb
     ⊎ ((result ≡ Err NoMemory) × (after ≡ before) × (new ≡ old))
 CarriesNamed task symbols (NoSymbols fault) old new before after = ⊥
 CarriesNamed task symbols (Usage fault) old new before after = ⊥
+CarriesNamed task symbols Refused old new before after = ⊥
 
 -- why there are no names is reported: the file of names at a path can't be opened, or it gives none
 abbrev pub RefusesNames : NoNames → Outcome → OutputState → OutputState → Type 0
@@ -72,11 +76,18 @@ Carries text faults task outcome old new before after =
     ⊎ ((none : NoNames) × NoneNamed text faults task.bottom old.files (texts task.names.items) none
     × GoesWithout none outcome old new before after)
 
--- the command line is refused, with any one of its faults, or asks for help: the parser's text, if there is one, is written, and no
--- file is opened; or the task that the command line asks for is carried out
+-- a value of a command line is refused, and the line that names it is reported
+abbrev pub RefusesValue : List Text → OutputState → OutputState → Type 0
+RefusesValue words reported reported' =
+    (value : RefusedValue) × Plans words (Err (refusal.Value value)) × Reports (refused_line (refused_word value)) reported reported'
+
+-- the parser refuses the command line, or it asks for help, or memory is refused: the parser's text, if there is one, is written, and no
+-- file is opened; or a value of it is refused, and no file is opened; or the task that the command line asks for is carried out
 abbrev pub HasOutcome : {I : Type 0} → (I → Option feed.Text) → (I → ℕ) → List Text → Outcome → Store → Store → Streams → Streams → Type 0
-HasOutcome text faults words (Usage fault) old new before after = Plans words (Err fault) × (new ≡ old)
+HasOutcome text faults words (Usage fault) old new before after = Plans words (Err (refusal.Usage fault)) × (new ≡ old)
     × (after.input ≡ before.input) × Explains fault before.printed after.printed before.reported after.reported
+HasOutcome text faults words Refused old new before after = RefusesValue words before.reported after.reported × (new ≡ old)
+    × (after.input ≡ before.input) × (after.printed ≡ before.printed)
 HasOutcome text faults words outcome old new before after =
     (task : TraceTask) × Plans words (Ok task) × Carries text faults task outcome old new before after
 

@@ -10,7 +10,7 @@ use Rattle.m11_trace.specs.declared.ending.Ending.TheVariants.{Stopped, Reached,
 use Rattle.m11_base_disassembly.specs.declared.map_fault.MapFault.{MapFault}
 use Rattle.m11_base_disassembly.specs.declared.map_fault.MapFault.TheVariants as map
 use Rattle.m11_tracer.specs.declared.outcome.Outcome.{Outcome}
-use Rattle.m11_tracer.specs.declared.outcome.Outcome.TheVariants.{Usage, NotOpened, NoSymbols, Ran}
+use Rattle.m11_tracer.specs.declared.outcome.Outcome.TheVariants.{Usage, Refused, NotOpened, NoSymbols, Ran}
 
 -- the exit status for an ending; a run that stopped at a breakpoint or at a change of the watched word has the status of a run at its limit
 abbrev pub ending_status : Ending → ℕ
@@ -27,15 +27,17 @@ map_status map.NoMemory = 5
 
 abbrev pub status_of : Outcome → ℕ
 status_of (Usage fault) = usage_status fault
+status_of Refused = 2
 status_of NotOpened = 3
 status_of (NoSymbols fault) = map_status fault
 status_of (Ran (Ok ending)) = ending_status ending
 status_of (Ran (Err fault)) = sim_status fault
 
--- the line for an outcome: empty without a fault, and for a file that can't be opened or gives no names, since that has been reported
--- already
+-- the line for an outcome: empty without a fault, and where the reason has been reported already, for a refused value and for a file that
+-- can't be opened or gives no names
 abbrev pub line_of : Outcome → Bytes
 line_of (Usage fault) = usage_line fault
+line_of Refused = []
 line_of NotOpened = []
 line_of (NoSymbols fault) = []
 line_of (Ran (Ok ending)) = []

@@ -1,6 +1,7 @@
 -- What a command line asks for. (This project's own.)
-use Rattle.std.specs.Prelude.{◌≡◌, ◌⊎◌, ◌==◌, if◌then◌else◌, nat_lt, ℕ, Bool, List, [], ◌∷◌, ◌++◌, length, Option, Some, None, Result, Ok, Err, codes, unwrap_or}
+use Rattle.std.specs.Prelude.{◌≡◌, ◌==◌, if◌then◌else◌, nat_lt, ℕ, Bool, List, [], ◌∷◌, ◌++◌, length, Option, Some, None, Result, Ok, Err, codes, unwrap_or}
 use Rattle.std.specs.List.{after_first, before_first, position_or_len}
+use Rattle.std.specs.Result.{result_and}
 use Rattle.clap.specs.Words.{Row, Text, all_of, first_of, one_of}
 use Rattle.m11_cli_tasks.specs.Commands.{most_steps}
 use Rattle.m11_cli_tasks.specs.Opened.{texts}
@@ -8,6 +9,11 @@ use Rattle.m11_cli_tasks.specs.Plans as tasks
 use Rattle.m11_cli_tasks.specs.Tasks.{IsSimTask, address_of, bottom_of, count_of, number_or, start_of}
 use Rattle.m11_cli_tasks.specs.declared.usage.UsageFault.{UsageFault}
 use Rattle.m11_cli_tasks.specs.declared.usage.UsageFault.TheVariants.{NoMemory}
+use Rattle.m11_cli_reports.specs.Refusals.{RefusedWord, of_words, reading, refused_word, single}
+use Rattle.m11_cli_reports.specs.declared.refusals.AddressOption.TheVariants as option
+use Rattle.m11_cli_reports.specs.declared.refusals.RefusedValue.{RefusedValue}
+use Rattle.m11_cli_reports.specs.declared.refusals.Refusal.{Refusal}
+use Rattle.m11_cli_reports.specs.declared.refusals.Refusal.TheVariants.{Usage, Value}
 use Rattle.m11_trace.specs.declared.ranges.Range.{Range}
 use Rattle.m11_trace.specs.declared.stops.Breakpoint.{Breakpoint}
 use Rattle.m11_tracer.specs.Application.{application}
@@ -35,24 +41,28 @@ breakpoint_by (Ok address) (Ok count) = Ok (record { address = address; count = 
 abbrev pub breakpoint_of : Text → Result Breakpoint UsageFault
 breakpoint_of text = breakpoint_by (address_of (before_first is_colon text)) (count_by (after_colon text))
 
--- a breakpoint followed by others; or the first fault among them
-abbrev pub with_breakpoint : Result Breakpoint UsageFault → Result (List Breakpoint) UsageFault → Result (List Breakpoint) UsageFault
-with_breakpoint (Err fault) more = Err fault
-with_breakpoint (Ok breakpoint) (Err fault) = Err fault
+-- a breakpoint followed by others; or the first word among them that is refused
+abbrev pub with_breakpoint : Result Breakpoint RefusedWord → Result (List Breakpoint) RefusedWord → Result (List Breakpoint) RefusedWord
+with_breakpoint (Err refused) more = Err refused
+with_breakpoint (Ok breakpoint) (Err refused) = Err refused
 with_breakpoint (Ok breakpoint) (Ok breakpoints) = Ok (breakpoint ∷ breakpoints)
 
--- the breakpoints that these texts spell; or the fault of the first bad one
-abbrev pub breakpoints_by : List Text → Result (List Breakpoint) UsageFault
+-- the breakpoints that these texts spell; or the first text that spells none, which is refused
+abbrev pub breakpoints_by : List Text → Result (List Breakpoint) RefusedWord
 breakpoints_by [] = Ok []
-breakpoints_by (text ∷ texts) = with_breakpoint (breakpoint_of text) (breakpoints_by texts)
+breakpoints_by (text ∷ texts) = with_breakpoint (reading option.Place text (breakpoint_of text)) (breakpoints_by texts)
 
--- the breakpoints of a command line, in order; or the fault of the first bad one
-abbrev pub breakpoints_of : List Row → Result (List Breakpoint) UsageFault
+-- where the run starts, if an option says so; or its word is refused
+abbrev pub start_by : List Row → Result (Option ℕ) RefusedWord
+start_by rows = single option.Start start_of (first_of (codes "start") rows)
+
+-- the breakpoints of a command line, in order; or the first word of one that is refused
+abbrev pub breakpoints_of : List Row → Result (List Breakpoint) RefusedWord
 breakpoints_of rows = breakpoints_by (unwrap_or (all_of (codes "place") rows) [])
 
--- the address of the word to watch, if there is one; or the fault of that address
-abbrev pub watched_of : List Row → Result (Option ℕ) UsageFault
-watched_of rows = start_of (first_of (codes "watch") rows)
+-- the address of the word of memory to watch, if there is one; or the option's word is refused
+abbrev pub watched_of : List Row → Result (Option ℕ) RefusedWord
+watched_of rows = single option.Watch start_of (first_of (codes "watch") rows)
 
 abbrev pub range_by : Result ℕ UsageFault → Result ℕ UsageFault → Result Range UsageFault
 range_by (Err fault) last = Err fault
@@ -70,18 +80,29 @@ abbrev pub range_of : Text → Result Range UsageFault
 range_of text =
     let first = address_of (before_first is_colon text) in range_by first (last_by first (after_colon text))
 
-abbrev pub with_range : Result Range UsageFault → Result (List Range) UsageFault → Result (List Range) UsageFault
-with_range (Err fault) more = Err fault
-with_range (Ok range) (Err fault) = Err fault
+abbrev pub with_range : Result Range RefusedWord → Result (List Range) RefusedWord → Result (List Range) RefusedWord
+with_range (Err refused) more = Err refused
+with_range (Ok range) (Err refused) = Err refused
 with_range (Ok range) (Ok ranges) = Ok (range ∷ ranges)
 
-abbrev pub ranges_by : List Text → Result (List Range) UsageFault
+-- the memory ranges that these texts spell; or the first text that spells none, which is refused
+abbrev pub ranges_by : List Text → Result (List Range) RefusedWord
 ranges_by [] = Ok []
-ranges_by (text ∷ texts) = with_range (range_of text) (ranges_by texts)
+ranges_by (text ∷ texts) = with_range (reading option.Range text (range_of text)) (ranges_by texts)
 
--- the memory ranges of a command line, in order; or the fault of the first bad one
-abbrev pub ranges_of : List Row → Result (List Range) UsageFault
+-- the memory ranges of a command line, in order; or the first word of one that is refused
+abbrev pub ranges_of : List Row → Result (List Range) RefusedWord
 ranges_of rows = ranges_by (unwrap_or (all_of (codes "range") rows) [])
+
+-- the bottom; or its word is refused
+abbrev pub bottom_by : List Row → Result ℕ RefusedWord
+bottom_by rows = single option.Bottom bottom_of (first_of (codes "bottom") rows)
+
+-- the words of options are looked at in this order: the start, the breakpoints, the word to watch, the memory ranges, the bottom. None is
+-- refused, or this is the first one that is
+abbrev pub in_order : List Row → Result ℕ RefusedWord
+in_order rows = result_and (start_by rows) (result_and (breakpoints_of rows)
+    (result_and (watched_of rows) (result_and (ranges_of rows) (bottom_by rows))))
 
 -- the traced run that the parsed options ask for: the run is that of `m11 sim`; `from` gives the first step with a trace line, 0 if the
 -- option is left out; `place` gives the breakpoints, `watch` the word to watch, `range` the memory ranges, in order, `symbols` the files of
@@ -93,34 +114,28 @@ pub record IsTraceTask (rows : List Row) (task : TraceTask) : Type 0 where
   pub watched : watched_of rows ≡ Ok task.stops.watched
   pub ranges : ranges_of rows ≡ Ok task.ranges.items
   pub names : texts task.names.items ≡ unwrap_or (all_of (codes "symbols") rows) []
-  pub bottom : bottom_of (first_of (codes "bottom") rows) ≡ Ok task.bottom
+  pub bottom : bottom_by rows ≡ Ok task.bottom
 
--- why options that the parser accepts give no task: the start, a breakpoint, the word to watch, a memory range or the bottom has this
--- fault; or memory was refused
-abbrev pub IsRefused : List Row → UsageFault → Type 0
-IsRefused rows fault =
-    (fault ≡ NoMemory) ⊎ ((start_of (first_of (codes "start") rows) ≡ Err fault)
-    ⊎ ((breakpoints_of rows ≡ Err fault) ⊎ ((watched_of rows ≡ Err fault)
-    ⊎ ((ranges_of rows ≡ Err fault) ⊎ (bottom_of (first_of (codes "bottom") rows) ≡ Err fault)))))
-
-abbrev pub EntriesHaveResult : List Row → Result TraceTask UsageFault → Type 0
-EntriesHaveResult rows (Ok task) = IsTraceTask rows task
-EntriesHaveResult rows (Err fault) = IsRefused rows fault
+-- the parsed options ask for this run; or this is the first word of an option that is refused; or memory was refused
+abbrev pub EntriesHaveResult : List Row → Result (Result TraceTask RefusedValue) UsageFault → Type 0
+EntriesHaveResult rows (Ok (Ok task)) = IsTraceTask rows task
+EntriesHaveResult rows (Ok (Err value)) = in_order rows ≡ Err (refused_word value)
+EntriesHaveResult rows (Err fault) = fault ≡ NoMemory
 
 -- what a command line asks for, or why it is refused; memory may be refused for any command line
-abbrev pub Plans : List Text → Result TraceTask UsageFault → Type 0
-Plans words result = tasks.Plans application EntriesHaveResult words result
+abbrev pub Plans : List Text → Result TraceTask Refusal → Type 0
+Plans words result = tasks.Plans application EntriesHaveResult words (of_words result)
 
 -- ---- adding breakpoints and memory ranges
 
--- the breakpoints that these texts spell were added; or a text spells none, and the fault of the first such text is returned; or memory
--- was refused
-abbrev pub AddsBreakpoints : List Text → List Breakpoint → List Breakpoint → Result (Unit {0}) UsageFault → Type 0
+-- the breakpoints that these texts spell were added; or the first text that spells none is refused; or memory was refused
+abbrev pub AddsBreakpoints : List Text → List Breakpoint → List Breakpoint → Result (Unit {0}) Refusal → Type 0
 AddsBreakpoints texts old new (Ok done) = (more : List Breakpoint) × (breakpoints_by texts ≡ Ok more) × (new ≡ old ++ more)
-AddsBreakpoints texts old new (Err fault) = (fault ≡ NoMemory) ⊎ (breakpoints_by texts ≡ Err fault)
+AddsBreakpoints texts old new (Err (Value value)) = breakpoints_by texts ≡ Err (refused_word value)
+AddsBreakpoints texts old new (Err (Usage fault)) = fault ≡ NoMemory
 
--- the memory ranges that these texts spell were added; or a text spells none, and the fault of the first such text is returned; or memory
--- was refused
-abbrev pub AddsRanges : List Text → List Range → List Range → Result (Unit {0}) UsageFault → Type 0
+-- the memory ranges that these texts spell were added; or the first text that spells none is refused; or memory was refused
+abbrev pub AddsRanges : List Text → List Range → List Range → Result (Unit {0}) Refusal → Type 0
 AddsRanges texts old new (Ok done) = (more : List Range) × (ranges_by texts ≡ Ok more) × (new ≡ old ++ more)
-AddsRanges texts old new (Err fault) = (fault ≡ NoMemory) ⊎ (ranges_by texts ≡ Err fault)
+AddsRanges texts old new (Err (Value value)) = ranges_by texts ≡ Err (refused_word value)
+AddsRanges texts old new (Err (Usage fault)) = fault ≡ NoMemory

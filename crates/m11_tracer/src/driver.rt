@@ -17,7 +17,7 @@ use crate::task::{TraceTask, plan};
 use m11_base::{Feed, Sink};
 use m11_base_disassembly::Symbol;
 use m11_base_files::{OpenRefusal, Opens};
-use m11_cli_reports::{explain, report, report_not_opened};
+use m11_cli_reports::{Refusal, explain, report, report_not_opened, report_refused};
 use m11_cpu::SimFault;
 use m11_link_load_map::{NoNames, read_names};
 use m11_trace::{Ending, trace_run};
@@ -63,8 +63,8 @@ fn report_outcome<E: Sink>(outcome: &Outcome, err: &mut E) -> u8
     status(outcome)
 }
 
-// Carries out the command line and returns the outcome. Help, a refusal by the parser, and a file that can't be opened or gives no
-// names are reported here.
+// Carries out the command line and returns the outcome. Help, a refusal by the parser, a value that is refused, and a file that can't be
+// opened or gives no names are reported here.
 #[tactic(auto, using(crate::proofs::Carried::carried))]
 fn outcome_of<'a, F, I, O, E, S>(
     alloc: Global,
@@ -87,9 +87,13 @@ where
 {
     match plan(alloc, words) {
         Ok(task) => carry_out(alloc, files, input, out, err, &task),
-        Err(fault) => {
+        Err(Refusal::Usage(fault)) => {
             explain(alloc, &fault, out, err);
             Outcome::Usage(fault)
+        }
+        Err(Refusal::Value(value)) => {
+            report_refused(&value, err);
+            Outcome::Refused
         }
     }
 }

@@ -12,8 +12,10 @@ use m11_trace::Ending;
 /// The outcome of a command line.
 #[derive(Drop)]
 pub enum Outcome {
-    /// The command line was refused or asked for help, or memory was refused while it was read.
+    /// The parser refused the command line, or help was asked for, or memory was refused while it was read.
     Usage(UsageFault),
+    /// A value of the command line was refused, which was reported, so nothing ran.
+    Refused,
     /// A file of names or the tape couldn't be opened, so nothing ran.
     NotOpened,
     /// A file gave no names for addresses, with this fault, so nothing ran.
@@ -51,6 +53,7 @@ pub(crate) fn status(outcome: &Outcome) -> u8
 {
     match outcome {
         Outcome::Usage(fault) => usage_status(fault),
+        Outcome::Refused => 2,
         Outcome::NotOpened => 3,
         Outcome::NoSymbols(fault) => map_status(*fault),
         Outcome::Ran(Ok(ending)) => ending_status(*ending),
@@ -65,6 +68,6 @@ pub(crate) fn line(outcome: &Outcome) -> &'static str
     match outcome {
         Outcome::Usage(fault) => usage_line(fault),
         Outcome::Ran(Err(fault)) => sim_line(*fault),
-        Outcome::Ran(Ok(_)) | Outcome::NotOpened | Outcome::NoSymbols(_) => "",
+        Outcome::Ran(Ok(_)) | Outcome::Refused | Outcome::NotOpened | Outcome::NoSymbols(_) => "",
     }
 }

@@ -1,15 +1,18 @@
 //! What a command line asks for.
 
-ghost use Rattle.std.specs.Prelude.{◌≡◌, IfOk, map, option_map};
+ghost use Rattle.std.specs.Prelude.{◌≡◌, IfOk, codes, map, option_map};
 ghost use Rattle.std.specs.List.{before_first};
-ghost use Rattle.clap.specs.Words.{found_of, rows_of};
+ghost use Rattle.clap.specs.Words.{first_of, found_of, rows_of};
 ghost use Rattle.m11_cli_tasks.specs.Opened.{texts};
-ghost use Rattle.m11_cli_tasks.specs.Tasks.{IsDoable};
+ghost use Rattle.m11_cli_reports.specs.Refusals.{of_words};
+ghost use Rattle.m11_cli_tasks.specs.Tasks.{IsDoable, start_of};
 ghost use Rattle.m11_cli_tasks.specs.declared.tasks.Task.TheVariants.{Sim};
-ghost use Rattle.m11_tracer.specs.Task.{AddsBreakpoints, AddsRanges, EntriesHaveResult, Plans, after_colon, breakpoint_of, is_colon, range_of, watched_of};
+ghost use Rattle.m11_tracer.specs.Task.{AddsBreakpoints, AddsRanges, EntriesHaveResult, Plans, after_colon, breakpoint_of, is_colon};
+ghost use Rattle.m11_tracer.specs.Task.{range_of};
 
 use crate::application::application_command;
 use clap::ArgMatches;
+use m11_cli_reports::{AddressOption, Refusal, reading, single_reading};
 use m11_cli_tasks::{
     SimTask, UsageFault, address, all_texts, bottom_option, count, number_option, sim_task,
 };
@@ -40,10 +43,12 @@ const MOST_STEPS: u32 = 1_000_000_000;
 /// Reads a command line, whose first word is the program's name.
 ///
 /// Errors, in this order: `Help` or `Words`, if a word asks for help or the parser refuses the words, whichever it meets first;
-/// `BadOctal`, `OddAddress` or `BadAddress`, for the start; one of the same three for the address of the first bad breakpoint, or else
-/// `BadCount` for its count; one of the same three for the word to watch, then for an address of the first bad memory range, and then
-/// for the bottom. `NoMemory` at any point, if memory is refused.
-pub(crate) fn plan<'a, S: AsStr>(alloc: Global, words: &'a [S]) -> Result<TraceTask<'a>, UsageFault>
+/// the value of the start, if it is bad; the first bad value of a breakpoint, for its address or else for its count; the word to watch;
+/// the first bad value of a memory range; the bottom. `NoMemory` at any point, if memory is refused.
+pub(crate) fn plan<'a, S: AsStr>(
+    alloc: Global,
+    words: &'a [S],
+) -> Result<TraceTask<'a>, Refusal<'a>>
     ensures planned { Plans (map S.text words.entry.now) result }
     ensures doable { IfOk result (λ task. IsDoable (Sim task.sim)) }
 {
@@ -54,21 +59,31 @@ pub(crate) fn plan<'a, S: AsStr>(alloc: Global, words: &'a [S]) -> Result<TraceT
     task
 }
 
-// The task that the parsed options ask for. Errors: the fault of an address or count, or `NoMemory`.
-fn parsed_task<'a>(alloc: Global, entries: &ArgMatches<'a>) -> Result<TraceTask<'a>, UsageFault>
-    ensures given { EntriesHaveResult (rows_of (found_of entries.now)) result }
+// The task that the parsed options ask for. Errors: the first bad value of an option, or `NoMemory`.
+fn parsed_task<'a>(alloc: Global, entries: &ArgMatches<'a>) -> Result<TraceTask<'a>, Refusal<'a>>
+    ensures given { EntriesHaveResult (rows_of (found_of entries.now)) (of_words result) }
     ensures doable { IfOk result (λ task. IsDoable (Sim task.sim)) }
 {
-    let sim = sim_task(entries)?;
+    let sim = single_reading(entries, AddressOption::Start, "start", sim_task(entries))?;
     let named = all_texts(alloc, entries, "place")?;
     let mut breakpoints = Vec::new(alloc);
     add_breakpoints(&mut breakpoints, named.as_slice())?;
-    let watched = watch_option(entries)?;
+    let watched = single_reading(
+        entries,
+        AddressOption::Watch,
+        "watch",
+        watch_option(entries),
+    )?;
     let parts = all_texts(alloc, entries, "range")?;
     let mut ranges = Vec::new(alloc);
     add_ranges(&mut ranges, parts.as_slice())?;
     let names = all_texts(alloc, entries, "symbols")?;
-    let bottom = bottom_option(entries)?;
+    let bottom = single_reading(
+        entries,
+        AddressOption::Bottom,
+        "bottom",
+        bottom_option(entries),
+    )?;
     Ok(TraceTask {
         sim,
         from: number_option(entries, "from", 0, MOST_STEPS, 0),
@@ -85,7 +100,7 @@ fn parsed_task<'a>(alloc: Global, entries: &ArgMatches<'a>) -> Result<TraceTask<
 // The address of the word to watch, if there is one. Error: the fault of that address.
 #[tactic(auto, using(m11_cli_tasks::proofs::Entries::first_entry_value))]
 fn watch_option(entries: &ArgMatches<'_>) -> Result<Option<u16>, UsageFault>
-    ensures { result ≡ watched_of (rows_of (found_of entries.now)) }
+    ensures { result ≡ start_of (first_of (codes "watch") (rows_of (found_of entries.now))) }
 {
     match entries.get_str("watch") {
         Some(text) => Ok(Some(address(text)?)),
@@ -93,27 +108,30 @@ fn watch_option(entries: &ArgMatches<'_>) -> Result<Option<u16>, UsageFault>
     }
 }
 
-// Adds the breakpoints that these texts spell. Error: the fault of the first bad one, or `NoMemory`.
-fn add_breakpoints(breakpoints: &mut Vec<Breakpoint>, named: &[&str]) -> Result<(), UsageFault>
+// Adds the breakpoints that these texts spell. Errors: the first text that spells none, or `NoMemory`.
+fn add_breakpoints<'a>(
+    breakpoints: &mut Vec<Breakpoint>,
+    named: &[&'a str],
+) -> Result<(), Refusal<'a>>
     ensures { AddsBreakpoints (texts named.now) breakpoints.old.items breakpoints.new.items result }
 {
     match named {
         [] => Ok(()),
         [text, others @ ..] => {
-            breakpoints.push(breakpoint_of(*text)?)?;
+            breakpoints.push(reading(AddressOption::Place, *text, breakpoint_of(*text))?)?;
             add_breakpoints(breakpoints, others)
         }
     }
 }
 
-// Adds the memory ranges that these texts spell. Error: the fault of the first bad one, or `NoMemory`.
-fn add_ranges(ranges: &mut Vec<Range>, named: &[&str]) -> Result<(), UsageFault>
+// Adds the memory ranges that these texts spell. Errors: the first text that spells none, or `NoMemory`.
+fn add_ranges<'a>(ranges: &mut Vec<Range>, named: &[&'a str]) -> Result<(), Refusal<'a>>
     ensures { AddsRanges (texts named.now) ranges.old.items ranges.new.items result }
 {
     match named {
         [] => Ok(()),
         [text, others @ ..] => {
-            ranges.push(range_of(*text)?)?;
+            ranges.push(reading(AddressOption::Range, *text, range_of(*text))?)?;
             add_ranges(ranges, others)
         }
     }
