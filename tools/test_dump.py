@@ -516,6 +516,15 @@ def check(program, words, files):
         return done.returncode, done.stdout.decode(), done.stderr.decode()
 
 
+def into_closed_pipe(program, words):
+    """The status and the messages of a call whose output is a pipe that is closed at its other end."""
+    reader, writer = os.pipe()
+    os.close(reader)
+    done = subprocess.run([program, *words], stdout=writer, stderr=subprocess.PIPE, check=False)
+    os.close(writer)
+    return done.returncode, "", done.stderr.decode()
+
+
 def main():
     """Runs all checks."""
     program, failed = os.path.abspath(sys.argv[1]), 0
@@ -529,6 +538,9 @@ def main():
     with open("/dev/full", "wb") as full:
         done = subprocess.run([program, "--help"], stdout=full, stderr=subprocess.PIPE, check=False)
     cases.append(("help on a full device", (done.returncode, "", done.stderr.decode()), (0, "", "")))
+    for what, words in (("contents", [program]), ("contents of two files", ["-t", os.devnull, program]), ("instructions", ["-d", program]),
+                        ("a load map", ["-m", os.devnull])):
+        cases.append((f"{what} that nobody reads", into_closed_pipe(program, words), (3, "", "")))
     helped = check(program, "--help", {})
     cases.append(("help", (helped[0], "<FILE>..." in helped[1], helped[2]), (0, True, "")))
     refused = check(program, "", {})

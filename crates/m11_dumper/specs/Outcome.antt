@@ -1,7 +1,7 @@
 -- The outcome of a command line, what is written for it, and its exit status: 0 if all files were shown or help was asked for, 2 if the
 -- command line is refused, 3 if a device failed or a file couldn't be opened, 4 for a malformed file, 5 for lack of memory, 6 for an
 -- exceeded limit. (This project's own; a fault has the same status as in a link or a run.)
-use Rattle.std.specs.Prelude.{◌≡◌, ℕ, List, Option, Result, Ok, Err}
+use Rattle.std.specs.Prelude.{◌≡◌, ◌&&◌, ℕ, Bool, true, false, List, Option, Result, Ok, Err}
 use Rattle.clap.specs.Words.{Text}
 use Rattle.m11_base.specs.Devices.{Bytes}
 use Rattle.m11_base.specs.Feed as feed
@@ -73,10 +73,34 @@ abbrev pub RefusesValue : List Text → OutputState → OutputState → Type 0
 RefusesValue words err err' = (value : RefusedValue) × Plans words (Err (refusal.Value value))
     × Reports (refused_line (refused_word value)) err err'
 
--- the report after showing: none if all files were shown; otherwise the reason why not, unless memory was refused for its line
-abbrev pub Says : Result (Unit {0}) Stop → OutputState → OutputState → Type 0
-Says (Ok done) err err' = err' ≡ err
-Says (Err stop) err err' = MayReport (stop_line stop) err err'
+-- a write of the output failed
+abbrev pub is_write_fault : DumpFault → Bool
+is_write_fault fault.Write = true
+is_write_fault (fault.Block inner) = false
+is_write_fault (fault.Record inner) = false
+is_write_fault (fault.Rule inner) = false
+is_write_fault (fault.Tape inner) = false
+is_write_fault fault.NoMemory = false
+
+abbrev pub is_write : Stop → Bool
+is_write (NotOpened path) = false
+is_write (InFile path placed) = is_write_fault placed.fault
+is_write (InObject path fault) = false
+is_write (InMap fault) = false
+is_write (NoSymbols path fault) = false
+is_write Write = true
+is_write NoMemory = false
+
+-- the reason for stopping is reported, unless memory was refused for its line; or it isn't to be reported
+abbrev pub SaysUnless : Bool → Stop → OutputState → OutputState → Type 0
+SaysUnless true stop err err' = err' ≡ err
+SaysUnless false stop err err' = MayReport (stop_line stop) err err'
+
+-- the report after showing: none if all files were shown, or if a write failed since nobody reads the output any more; otherwise the reason
+-- why not all were shown
+abbrev pub Says : Bool → Result (Unit {0}) Stop → OutputState → OutputState → Type 0
+Says unread (Ok done) err err' = err' ≡ err
+Says unread (Err stop) err err' = SaysUnless (unread && is_write stop) stop err err'
 
 -- the contents of the files, or the load map of objects, were shown; or the result is the reason why not
 abbrev pub Shows : {I : Type 0} → (I → Option feed.Text) → (I → ℕ) → Show → ℕ → List Bytes → Option Files → List Bytes
@@ -86,14 +110,15 @@ Shows text faults (Contents look) bottom names files paths out out' result =
 Shows text faults Map bottom names files paths out out' result = ShowsMap text faults bottom files paths out out' result
 
 -- the command line is refused or asks for help, which the parser's text says; or a value of it is refused; or the files at its paths, or
--- their load map, are shown, and the reason for stopping early, if there is one, is reported
-abbrev pub Yields : {I : Type 0} → (I → Option feed.Text) → (I → ℕ) → List Text → Option Files → Outcome → OutputState → OutputState → OutputState
-    → OutputState → Type 0
-Yields text faults words files (Usage fault) out out' err err' = Plans words (Err (refusal.Usage fault)) × Explains fault out out' err err'
-Yields text faults words files Refused out out' err err' = RefusesValue words err err' × (out' ≡ out)
-Yields text faults words files (Shown result) out out' err err' = (request : Request) × Plans words (Ok request)
+-- their load map, are shown, and the reason for stopping early, if there is one, is reported. After this the output is `out'`, and `unread`
+-- says whether a write of it failed since nobody reads it any more
+abbrev pub Yields : {I : Type 0} → (I → Option feed.Text) → (I → ℕ) → List Text → Option Files → Outcome → OutputState → OutputState → Bool
+    → OutputState → OutputState → Type 0
+Yields text faults words files (Usage fault) out out' unread err err' = Plans words (Err (refusal.Usage fault)) × Explains fault out out' err err'
+Yields text faults words files Refused out out' unread err err' = RefusesValue words err err' × (out' ≡ out)
+Yields text faults words files (Shown result) out out' unread err err' = (request : Request) × Plans words (Ok request)
     × Shows text faults request.show request.bottom (texts request.names.items) files (texts request.paths.items) out out' result
-    × Says result err err'
+    × Says unread result err err'
 
 -- ---- command lines that the system can't supply
 

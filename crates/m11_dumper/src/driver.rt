@@ -11,6 +11,7 @@ use crate::lines::stop_line;
 use crate::mapping::show_map;
 use crate::names::show_named;
 use crate::paths::{Request, Show, plan};
+use crate::pipe::Readership;
 use crate::stop::{Outcome, Stop, status};
 use m11_base::Sink;
 use m11_base_files::Opens;
@@ -22,9 +23,9 @@ use std::convert::AsStr;
 /// Carries out the command line `words`, whose first word is the program's name, and returns the exit status.
 ///
 /// Opens the files and shows them on `out` one after another, up to the first that can't be shown; or shows the load map of all of
-/// them. If not everything could be shown, the reason is reported on `err`, with the path of the file at fault if there is one. Help
-/// goes to `out`, and a refused command line is reported on `err`. Nothing is reported if memory is refused for the command line or for
-/// the report.
+/// them. If not everything could be shown, the reason is reported on `err`, with the path of the file at fault if there is one; but
+/// where nobody reads `out` any more, that isn't reported. Help goes to `out`, and a refused command line is reported on `err`. Nothing is
+/// reported if memory is refused for the command line or for the report.
 pub(crate) fn command<'a, F, O, E, S>(
     alloc: Global,
     files: &mut F,
@@ -34,11 +35,12 @@ pub(crate) fn command<'a, F, O, E, S>(
 ) -> u8
 where
     F: Opens,
-    O: Sink,
+    O: Sink + Readership,
     E: Sink,
     S: AsStr,
     ensures command { (outcome : Outcome) × Yields F.Input.text F.Input.faults (map S.text words.entry.now) (F.files files.old) outcome
-        (output_of O.Sink out.old) (output_of O.Sink out.new) (output_of E.Sink err.old) (output_of E.Sink err.new)
+        (output_of O.Sink out.old) (output_of O.Sink out.new) (O.Readership.unread out.new)
+        (output_of E.Sink err.old) (output_of E.Sink err.new)
         × (result ≡ status_of outcome) }
     ensures files { F.files files.new ≡ F.files files.old }
 {
@@ -68,17 +70,18 @@ fn outcome_of<'a, F, O, E, S>(
 ) -> Outcome<'a>
 where
     F: Opens,
-    O: Sink,
+    O: Sink + Readership,
     E: Sink,
     S: AsStr,
     ensures yields { Yields F.Input.text F.Input.faults (map S.text words.entry.now) (F.files files.old) result
-        (output_of O.Sink out.old) (output_of O.Sink out.new) (output_of E.Sink err.old) (output_of E.Sink err.new) }
+        (output_of O.Sink out.old) (output_of O.Sink out.new) (O.Readership.unread out.new)
+        (output_of E.Sink err.old) (output_of E.Sink err.new) }
     ensures files { F.files files.new ≡ F.files files.old }
 {
     match plan(alloc, words) {
         Ok(request) => {
             let shown = show(alloc, files, &request, out);
-            say(alloc, &shown, err);
+            say(alloc, &shown, out.is_unread(), err);
             Outcome::Shown(shown)
         }
         Err(Refusal::Usage(fault)) => {
@@ -112,13 +115,17 @@ fn show<'a, F: Opens, O: Sink>(
     }
 }
 
-// Reports why showing stopped early, if it did. Nothing is reported if memory is refused for the line.
-fn say<E: Sink>(alloc: Global, shown: &Result<(), Stop<'_>>, err: &mut E)
-    ensures { Says shown.now (output_of E.Sink err.old) (output_of E.Sink err.new) }
+// Reports why showing stopped early, if it did; but not that a write failed, if nobody reads the output any more. Nothing is reported if
+// memory is refused for the line.
+fn say<E: Sink>(alloc: Global, shown: &Result<(), Stop<'_>>, is_unread: bool, err: &mut E)
+    ensures { Says is_unread shown.now (output_of E.Sink err.old) (output_of E.Sink err.new) }
 {
-    if let Err(stop) = shown
-        && let Ok(line) = stop_line(alloc, stop)
-    {
-        report(&line, err);
+    if let Err(stop) = shown {
+        if is_unread && stop.is_write() {
+            return;
+        }
+        if let Ok(line) = stop_line(alloc, stop) {
+            report(&line, err);
+        }
     }
 }

@@ -10,6 +10,9 @@ mod paths;
 mod lines;
 mod map_lines;
 
+// Standard output, which may be a pipe.
+mod pipe;
+
 // Files shown one after another, with names of addresses, or their load map.
 mod mapping;
 mod names;
@@ -20,6 +23,7 @@ mod stop;
 mod driver;
 
 use crate::driver::{command, command_without_words};
+use crate::pipe::PipeSink;
 use m11_base::WriterSink;
 use m11_base_files::SystemFiles;
 use m11_cli_tasks::words;
@@ -28,7 +32,7 @@ use std::process::ExitCode;
 fn main(rt: HostRuntime) -> ExitCode {
     // Created before anything else is opened, so that no file takes the place of a standard stream that is already closed.
     let mut files = SystemFiles::new(&rt);
-    let mut out = WriterSink::new(rt.stdout());
+    let mut out = PipeSink::new(rt.stdout());
     let mut err = WriterSink::new(rt.stderr());
     let status = match words(&rt) {
         Ok(words) => command(rt.alloc(), &mut files, &mut out, &mut err, words.as_slice()),

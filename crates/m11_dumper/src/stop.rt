@@ -1,7 +1,7 @@
 //! The outcome of a command line, and its exit status. The command line was refused, or all files were shown, or there is a reason why not.
 
 ghost use Rattle.std.specs.Prelude.{◌≡◌};
-ghost use Rattle.m11_dumper.specs.Outcome.{fault_status, map_status, status_of, stop_status};
+ghost use Rattle.m11_dumper.specs.Outcome.{fault_status, is_write, map_status, status_of, stop_status};
 ghost use Rattle.m11_dumper.specs.declared.stop.Stop.TheVariants.{NoMemory};
 
 use m11_base_disassembly::MapFault;
@@ -48,6 +48,19 @@ pub(crate) enum Outcome<'a> {
     Refused,
     /// All files were shown, or this is the reason why not.
     Shown(Result<(), Stop<'a>>),
+}
+
+impl Stop<'_> {
+    /// Whether a write of the output failed.
+    pub(crate) fn is_write(&self) -> bool
+        ensures { result ≡ is_write self.now }
+    {
+        match self {
+            Stop::Write => true,
+            Stop::InFile(_, placed) => matches!(placed.fault, DumpFault::Write),
+            _ => false,
+        }
+    }
 }
 
 // The exit status for a fault in a file, the same as for a link or a run.
