@@ -1,0 +1,247 @@
+"""From the words of a command to the definitions, and back to files and lines: what `asm`, `link` and `sim` say of a command whose devices don't fail.
+
+Three relations of the definitions are read here by hand as functions: each has one constructor that fits in each state. What else is computed is
+written from the definitions."""
+from names import Meaning
+from reader import Fault
+from runtime import NIL, Record, Value, append, forget, head, items, length, of_items, single
+from writer import Program
+
+ASM = """m11_asm.Written.program_writes m11_asm.Written.written m11_asm.Written.flagged_count m11_asm.Program.program_of m11_asm_passes.Lines.givens
+    m11_scan_line_laws.Readings.reading_of m11_unfold_rules.Limits.next_fault m11_unfold_rules.Taking.move m11_unfold_rules.Stages.start
+    m11_asm_passes.Refusals.line_fault m11_asm_passes.Refusals.given_by m11_asm_passes.Lines.acted m11_asm_passes.Lines.with_line
+    m11_asm_passes.Lines.counting_at m11_asm_passes.Lines.table_at m11_asm_passes.Lines.numbered m11_asm_faults.Faults.of_unfolding
+    m11_asm_faults.Faults.of_lines m11_asm_rules.Meanings.empty_map m11_asm_lines.Counting.none_used"""
+LINK = """m11_obj_blocks.Blocks.first_block m11_obj_blocks.Limited.most_bytes m11_link.Objects.outcome m11_link_text.Findings.findings_of
+    m11_link.Written.link_writes m11_link.Written.counted"""
+SIM = """m11_obj_blocks.Tapes.first_part m11_obj_blocks.Tapes.next_part m11_obj_blocks.Tapes.total_of m11_obj_blocks.Limited.most_bytes
+    m11_cpu_machine.Machine.new_machine m11_cpu.Loading.stored m11_cpu.Simulation.started m11_cpu.Simulation.text_at_stop"""
+BOTH = "m11_cli.FaultLines.line_of m11_cli.Outcome.status_of"
+
+
+class Definitions:
+    """The definitions that a command needs, each as an attribute with its name."""
+
+    def __init__(self, project, roots, remembers=True):
+        program = Program(project, remembers)
+        found = {}
+        for root in (roots + " " + BOTH).split():
+            crate, module, name = root.split(".")
+            meaning = Meaning("definition", f"Rattle.{crate}.specs.{module}", name)
+            if project.file(meaning.path) is None or name not in project.file(meaning.path).declarations:
+                raise Fault(f"there is no definition {root}, from which this command begins")
+            found[name] = program.want(meaning)
+        program.write()
+        for name, python in found.items():
+            setattr(self, name, program.loaded[python])
+
+
+class Machinery:
+    """The definitions of each command, written when it is first asked for."""
+
+    def __init__(self, project):
+        self.project, self.written = project, {}
+
+    def of(self, command):
+        if command not in self.written:
+            self.written[command] = Definitions(self.project, {"asm": ASM, "link": LINK, "sim": SIM}[command], command != "sim")
+        return self.written[command]
+
+
+class Outcome:
+    """What a command leaves: its status, standard error, and the bytes of each output that it writes."""
+
+    def __init__(self, status, messages=b"", outputs=None):
+        self.status, self.messages, self.outputs = status, messages, outputs or {}
+
+
+def bytes_of(some):
+    return bytes(items(some))
+
+
+def written_to(output, writes):
+    """The bytes that these writes add to an output."""
+    return b"".join(bytes_of(write.bytes) for write in items(writes) if write.output.tag == output)
+
+
+def ended(definitions, command, result, messages=b"", outputs=None):
+    """The outcome of a command with this result; the line of its fault, if it has one, comes last."""
+    outcome = Value(command, (result,))
+    return Outcome(definitions.status_of(outcome), messages + bytes_of(definitions.line_of(outcome)), outputs)
+
+
+def ok(**fields):
+    return Value("Ok", (Record(fields),))
+
+
+# ---- asm
+
+def live_lines(definitions, mapping, counting, reading):
+    """`PassLines`, `Ends` and `Refuses` of m11_asm_passes and m11_asm: the live lines of a reading, the fault that refuses it or None, and its end."""
+    stage, lines, source, read = definitions.start(NIL), NIL, items(reading.lines), 0
+    while not stage.has_ended:
+        if length(stage.left) == 0:
+            if read == len(source):
+                fault = definitions.of_lines(reading.fault.parts[0]) if reading.fault.tag == "Some" else None
+                return lines, fault, Record({"read": read, "has_end": False})
+            stage, read = definitions.with_line(source[read], stage), read + 1
+            continue
+        limit, move = definitions.next_fault(stage), definitions.move(stage)
+        if limit.tag == "Some":
+            return lines, definitions.of_unfolding(limit.parts[0]), None
+        if move.tag == "Passes":
+            stage = move.parts[0]
+            continue
+        live, after = move.parts
+        table = definitions.table_at(mapping, lines)
+        refused = definitions.line_fault(mapping, table, definitions.counting_at(mapping, counting, lines), live, after)
+        if refused.tag == "Some":
+            return lines, refused.parts[0], None
+        lines = append(lines, single(definitions.numbered(read, definitions.given_by(table, live, after))))
+        stage = definitions.acted(table, live, after)
+    return lines, None, Record({"read": read, "has_end": True})
+
+
+def assembled(definitions, sources):
+    """The result of an assembly of these texts, all its writes, the program of the first pass, and the live lines of the second."""
+    reading = definitions.reading_of(of_items([of_items(list(source)) for source in sources]))
+    lines, fault, _ = live_lines(definitions, definitions.empty_map(), definitions.none_used(), reading)
+    if fault is not None:
+        return Value("Err", (fault,)), NIL, None, NIL
+    program = definitions.program_of(definitions.givens(lines))
+    lines, fault, end = live_lines(definitions, program.map, Value("Definitions"), reading)
+    if fault is not None:
+        return Value("Err", (fault,)), definitions.written(program, lines), program, lines
+    return ok(flagged=definitions.flagged_count(program, lines, end.has_end)), definitions.program_writes(program, lines, end), program, lines
+
+
+def asm(definitions, options, texts):
+    result, writes, _, _ = assembled(definitions, texts)
+    outputs = {options[word]: written_to(output, writes) for word, output in (("-o", "Product"), ("-l", "Report")) if word in options}
+    return ended(definitions, "Asm", result, written_to("Messages", writes), outputs)
+
+
+# ---- link
+
+def object_items(definitions, data):
+    """`ObjectItems` of m11_link/specs/Objects.antt: the items that the bytes of an object yield."""
+    room, rest, found = definitions.most_bytes(), of_items(list(data)), []
+    while True:
+        read = definitions.first_block(rest)
+        left = read.parts[0][1] if read.tag == "Ok" else read.parts[0].parts[-1] if read.parts[0].tag == "Refused" else NIL
+        room -= length(rest) - length(left)
+        if room < 0:
+            return found + [Value("Refused", (Value("TooMuch"),))]
+        if read.tag == "Ok":
+            found.append(Value("BlockOf", (read.parts[0][0],)))
+            rest = left
+        elif read.parts[0].tag == "Between":
+            return found + [Value("ObjectEnds")]
+        else:
+            inner = read.parts[0].parts[0] if read.parts[0].tag == "Refused" else Value("Truncated")
+            return found + [Value("Refused", (Value("Block", (inner,)),))]
+
+
+def link(definitions, options, texts):
+    bottom = number(options.get("-b", "1000"), 8, "-b")
+    if bottom % 2 or bottom > 0o157776:
+        raise Fault("-b must be even, and at most 157776")
+    parts = definitions.outcome(bottom, of_items([item for text in texts for item in object_items(definitions, text)]))
+    if parts.tag == "Err":
+        return ended(definitions, "Link", parts, outputs={options[word]: b"" for word in ("-o", "-m") if word in options})
+    writes = definitions.link_writes(definitions.findings_of(bottom, parts.parts[0]), parts.parts[0])
+    outputs = {options[word]: written_to(output, writes) for word, output in (("-o", "Product"), ("-m", "Report")) if word in options}
+    return ended(definitions, "Link", ok(messages=definitions.counted(0, writes)), written_to("Messages", writes), outputs)
+
+
+# ---- sim
+
+def load(definitions, data, size):
+    """`LoadsTape`, `StopsAtPart` and `InsideData` of m11_cpu/specs/Loading.antt: the blocks and the start of a tape, or the fault of its load."""
+    most, blocks, read = definitions.most_bytes(), [], definitions.first_part
+    rest = of_items(list(data[:most]))
+    missing = {"Between": "TooMuch" if len(data) > most else "NoTransfer", "Inside": "TooMuch" if len(data) > most else "Truncated"}
+    while True:
+        part = read(rest)
+        if part.tag == "Err":
+            stop = part.parts[0]
+            return None, Value("Tape", (stop.parts[0] if stop.tag == "Refused" else Value(missing[stop.tag]),))
+        (part, rest) = part.parts[0]
+        if part.tag == "Start":
+            return (of_items(blocks), part.parts[0]), None
+        address, count = part.parts
+        if address + min(count, length(rest)) > size:
+            return None, Value("OutsideMemory")
+        if length(rest) < count:
+            return None, Value("Tape", (Value(missing["Inside"]),))
+        content = of_items(items(rest)[:count])
+        blocks.append((address, content))
+        read, rest = (lambda bytes, total=definitions.total_of(address, content): definitions.next_part(total, bytes)), of_items(items(rest)[count:])
+
+
+def play(dialogue, ask, send):
+    """`Does` of m11_cpu_machine/specs/Dialogue.antt, with a console that doesn't fail: the value of a dialogue."""
+    while dialogue.tag != "Comes":
+        if dialogue.tag == "Asks":
+            byte = ask()
+            dialogue = dialogue.parts[0](Value("Ends") if byte is None else Value("Gives", (byte,)))
+        else:
+            send(dialogue.parts[0])
+            dialogue = dialogue.parts[1](True)
+    return dialogue.parts[0]
+
+
+def sim(definitions, options, texts, ask, send):
+    words = number(options.get("-k", "28672"), 10, "-k")
+    if not 4096 <= words <= 28672:
+        raise Fault("-k must be from 4096 to 28672")
+    limit = number(options.get("-n", str(2 ** 64 - 1)), 10, "-n")
+    start = number(options["-s"], 8, "-s") if "-s" in options else None
+    machine = definitions.new_machine(words)
+    loaded, fault = load(definitions, texts[0], 2 * words)
+    if fault is not None:
+        return ended(definitions, "Sim", Value("Err", (Value("Load", (fault,)),)))
+    blocks, transfer = loaded
+    machine = machine.but({"memory": definitions.stored(blocks, machine.memory)})
+    ran, machine = play(definitions.started(transfer if start is None else start, limit, machine), ask, send)
+    return ended(definitions, "Sim", ok(stop=ran.stop), bytes_of(definitions.text_at_stop(ran, machine)))
+
+
+# ---- words
+
+OPTIONS = {"asm": ("-o", "-l"), "link": ("-o", "-m", "-b"), "sim": ("-n", "-s", "-k")}
+
+
+def number(text, base, option):
+    if not text.isascii() or not text.isdigit() or base == 8 and set(text) & {"8", "9"} or int(text, base) >= 2 ** (16 if base == 8 else 64):
+        raise Fault(f"{option} needs a number, and `{text}` is none that it may have")
+    return int(text, base)
+
+
+def words_of(command, words):
+    """The options of a command's words, and its files."""
+    options, files, waiting = {}, [], list(words)
+    while waiting:
+        word = waiting.pop(0)
+        if word in OPTIONS[command] and waiting and word not in options:
+            options[word] = waiting.pop(0)
+        elif word.startswith("-") and word != "-":
+            raise Fault(f"`{command} {' '.join(words)}`: these words aren't read here; `{word}` is no option of {command}, is there twice, or lacks its value")
+        else:
+            files.append(word)
+    if not files or command == "sim" and len(files) > 1 or command != "sim" and "-o" not in options:
+        raise Fault(f"`{command} {' '.join(words)}`: these words aren't read here; {command} needs {'one tape' if command == 'sim' else '-o and its files'}")
+    return options, files
+
+
+def run(machinery, command, words, read, ask=lambda: None, send=lambda byte: None):
+    """The outcome of a command. `read` gives the bytes of a file, `ask` the next byte of the console or None, and `send` takes one."""
+    options, files = words_of(command, words)
+    texts = [read(file) for file in files]
+    definitions = machinery.of(command)
+    try:
+        if command == "sim":
+            return sim(definitions, options, texts, ask, send)
+        return {"asm": asm, "link": link}[command](definitions, options, texts)
+    finally:
+        forget()

@@ -1,0 +1,461 @@
+"""Writes definitions as Python: each as a function of the arguments of its clauses, which are tried in their order.
+
+Types are None. A λ, and a `let` or `elim` inside a term, is a function of its own, whose first arguments are the variables that it uses, so that equal
+ones are equal values. Definitions of two forms that go over a list keep what they found for its beginning (`Growth` in runtime.py)."""
+import keyword
+
+import library
+import runtime
+from names import Meaning, is_relation
+from reader import Fault
+
+TAG = {"true": "{}", "false": "not {}", "zero": "{} == 0", "suc": "{} > 0", "pos": "{} >= 0", "negsuc": "{} < 0", "[]": "{0}[1] == {0}[2]",
+       "◌∷◌": "{0}[1] != {0}[2]"}
+INNER = {"suc": ("({} - 1)",), "pos": ("{}",), "negsuc": ("(-{} - 1)",), "◌∷◌": ("head({})", "tail({})")}
+
+
+def python_name(text):
+    """The text as a name of Python."""
+    name = "".join(one if one.isascii() and (one.isalnum() or one == "_") else f"_{ord(one):x}_" for one in text)
+    return f"{name}_" if keyword.iskeyword(name) or name[0].isdigit() else name
+
+
+def global_name(meaning):
+    crate, _, *modules = meaning.path.split(".")[1:]
+    return "__".join(python_name(part) for part in [crate, *modules, meaning.name])
+
+
+def flattened(term):
+    """A function and all its arguments."""
+    arguments = []
+    while term[0] == "apply":
+        term, arguments = term[1], term[2] + arguments
+    return term, arguments
+
+
+def names_in(term, found=None):
+    """All names in a term."""
+    found = set() if found is None else found
+    if isinstance(term, tuple) and len(term) == 2 and term[0] == "name" and isinstance(term[1], str):
+        found.add(term[1])
+    elif isinstance(term, (tuple, list)):
+        for part in term:
+            names_in(part, found)
+    return found
+
+
+class Program:
+    """The Python of some definitions and of all that they stand on. `remembers` says whether calls are remembered."""
+
+    def __init__(self, project, remembers=True):
+        self.project, self.remembers = project, remembers
+        self.waiting, self.texts, self.constants, self.values = [], {}, {}, {}
+        self.loaded = {name: getattr(runtime, name) for name in dir(runtime) if not name.startswith("__")}
+        self.loaded |= {"library_" + python_name(path): python for path, (_, python) in library.TABLE.items() if callable(python)}
+
+    def want(self, meaning):
+        """The Python name of a definition, which will be written."""
+        if meaning not in self.texts:
+            self.texts[meaning] = None
+            self.waiting.append(meaning)
+        return global_name(meaning)
+
+    def write(self):
+        """Writes all definitions that are wanted, and what they want in turn, and loads them."""
+        lines = []
+        while self.waiting:
+            meaning = self.waiting.pop()
+            self.texts[meaning] = DefinitionWriter(self, meaning).lines()
+            lines += self.texts[meaning]
+        names = [f"{name} = {text}" for name, text in self.constants.items()]
+        self.constants = {}
+        exec(compile("\n".join(names + lines), "<definitions>", "exec"), self.loaded)
+
+    def value(self, meaning):
+        """A definition as a value, loaded."""
+        name = self.want(meaning)
+        self.write()
+        count = self.count(meaning)
+        return self.loaded[name]() if count == 0 else runtime.Function(self.loaded[name], count)
+
+    def count(self, meaning):
+        """The number of arguments in the clauses of a definition."""
+        declaration = self.project.declaration(meaning)
+        file = self.project.file(meaning.path)
+        if file.unknown:
+            raise Fault(file.unknown[0])
+        if declaration.fault:
+            raise Fault(f"`{meaning}`: {declaration.fault}")
+        counts = {len(clause.patterns) for clause in declaration.clauses}
+        if not counts:
+            raise Fault(f"`{meaning}` has no clause")
+        if len(counts) > 1:
+            raise Fault(f"`{meaning}` has clauses of {' and '.join(map(str, sorted(counts)))} arguments")
+        return counts.pop()
+
+    def shared(self, prefix, text):
+        """A name for a value that is made once."""
+        if text not in self.values:
+            self.values[text] = f"{prefix}_{len(self.values)}"
+            self.constants[self.values[text]] = text
+        return self.values[text]
+
+
+class DefinitionWriter:
+    """Writes one definition."""
+
+    def __init__(self, program, meaning):
+        self.program, self.project, self.meaning = program, program.project, meaning
+        self.file, self.declaration = self.project.file(meaning.path), self.project.declaration(meaning)
+        self.name, self.fresh_count, self.inner = global_name(meaning), 0, []
+
+    def fault(self, text):
+        return Fault(f"`{self.meaning}` ({self.file.path}:{self.declaration.line}): {text}")
+
+    def fresh(self, base):
+        self.fresh_count += 1
+        return f"{python_name(base)}_{self.fresh_count}"
+
+    def lines(self):
+        """The definition's functions: those inside it first."""
+        count = self.program.count(self.meaning)
+        grown = GrowthWriter(self).lines() if count else None
+        if grown:
+            return self.inner + grown
+        arguments = [f"a{place}" for place in range(count)]
+        body = self.body([([*zip(arguments, clause.patterns)], clause.term) for clause in self.declaration.clauses], {})
+        head = ["@constant"] if count == 0 else ["@remembered"] if self.program.remembers else []
+        return self.inner + head + [f"def {self.name}({', '.join(arguments)}):"] + indented(body)
+
+    # ---- clauses
+
+    def body(self, clauses, scope):
+        """The statements that return what the first clause that fits yields."""
+        lines = []
+        for pairs, term in clauses:
+            tests, scope_inside, bound = self.matched(pairs, scope)
+            inside = bound + self.returned(term, scope_inside)
+            if not tests:
+                return lines + inside
+            lines += [f"if {' and '.join(tests)}:"] + indented(inside)
+        return lines + [f"raise NoClause({str(self.meaning)!r})"]
+
+    def matched(self, pairs, scope):
+        """The tests that values fit patterns, the scope with the variables of the patterns, and the statements that set those."""
+        tests, bound, scope = [], [], dict(scope)
+        for value, pattern in pairs:
+            self.match(value, pattern, tests, bound, scope)
+        return tests, scope, bound
+
+    def match(self, value, pattern, tests, bound, scope):
+        head, parts = flattened(pattern)
+        meaning = self.constructor(head)
+        if meaning is not None:
+            self.match_constructor(value, meaning, parts, tests, bound, scope)
+        elif pattern[0] == "name":
+            if pattern[1] != "_":
+                scope[pattern[1]] = self.fresh(pattern[1])
+                bound.append(f"{scope[pattern[1]]} = {value}")
+        elif pattern[0] == "tuple":
+            for place, part in enumerate(pattern[1]):
+                self.match(f"{value}[{place}]", part, tests, bound, scope)
+        elif pattern[0] == "binder":
+            self.match(value, pattern[1], tests, bound, scope)
+        else:
+            raise self.fault("a pattern has a form that isn't known")
+
+    def match_constructor(self, value, meaning, parts, tests, bound, scope):
+        if len(parts) != meaning.count:
+            raise self.fault(f"`{meaning.name}` has {meaning.count} arguments, and here {len(parts)}")
+        if meaning.kind == "builtin":
+            return
+        if meaning.kind == "library":
+            tests.append(TAG[meaning.name].format(value))
+            inner = [text.format(value) for text in INNER.get(meaning.name, ())]
+        else:
+            tests.append(f"{value}.tag == {meaning.name!r}")
+            inner = [f"{value}.parts[{place}]" for place in range(meaning.count)]
+        for place, part in zip(inner, parts):
+            self.match(place, part, tests, bound, scope)
+
+    def constructor(self, head):
+        """The constructor that a pattern's head names, if it names one."""
+        if head[0] == "name" and head[1] != "_":
+            if head[1] in library.BUILT_IN:
+                return Meaning("builtin", "", head[1])
+            found = self.project.meanings(self.file, head[1])
+        elif head[0] == "field" and head[1][0] == "name" and self.project.alias(self.file, head[1][1]):
+            found = self.project.member(self.project.alias(self.file, head[1][1]), head[2])
+        else:
+            return None
+        found = {one for one in found if one.kind == "constructor" or one.kind == "library" and one.name in TAG}
+        return self.project.one_of(found, f"{self.file.path}: a pattern") if found else None
+
+    # ---- statements
+
+    def returned(self, term, scope):
+        """The statements that return a term's value."""
+        if term[0] == "let":
+            tests, inside, bound = self.matched([(self.variable(value := self.fresh("let")), term[1])], scope)
+            if tests:
+                raise self.fault("the pattern of a `let` may not fit")
+            return self.assigned(value, term[2], scope) + bound + self.returned(term[3], inside)
+        if term[0] == "if":
+            return [f"if {self.value(term[1], scope)}:"] + indented(self.returned(term[2], scope)) + self.returned(term[3], scope)
+        if term[0] == "elim":
+            value = self.fresh("elim")
+            return self.assigned(value, term[1], scope) + self.body([([(value, pattern)], inner) for pattern, inner in term[2]], scope)
+        if term[0] == "do":
+            return self.returned(self.of_do(term), scope)
+        return [f"return {self.value(term, scope)}"]
+
+    @staticmethod
+    def variable(name):
+        return name
+
+    def assigned(self, name, term, scope):
+        return [f"{name} = {self.value(term, scope)}"]
+
+    @staticmethod
+    def of_do(term):
+        """A block as calls of `>>=`."""
+        found = term[2]
+        for name, step in reversed(term[1]):
+            found = ("apply", ("name", "◌>>=◌"), [step, ("lambda", [("name", name or "_")], found)])
+        return found
+
+    # ---- values
+
+    def value(self, term, scope):
+        """The Python expression of a term."""
+        return getattr(self, f"value_of_{term[0]}")(term, scope)
+
+    def value_of_number(self, term, scope):
+        return str(term[1])
+
+    def value_of_text(self, term, scope):
+        raise self.fault("a text stands where `codes` isn't before it")
+
+    def value_of_tuple(self, term, scope):
+        return "(" + "".join(f"{self.value(part, scope)}, " for part in term[1]) + ")" if term[1] else "UNIT"
+
+    def value_of_record(self, term, scope):
+        fields = ", ".join(f"{field_name(name)!r}: {self.value(value, scope)}" for name, value in term[2])
+        return f"Record({{{fields}}})" if term[1] is None else f"{self.value(term[1], scope)}.but({{{fields}}})"
+
+    def value_of_if(self, term, scope):
+        test, holds, fails = (self.value(part, scope) for part in term[1:])
+        return f"({holds} if {test} else {fails})"
+
+    def value_of_let(self, term, scope):
+        return self.called_apart(term, scope)
+
+    def value_of_elim(self, term, scope):
+        return self.called_apart(term, scope)
+
+    def value_of_do(self, term, scope):
+        return self.value(self.of_do(term), scope)
+
+    def value_of_binder(self, term, scope):
+        return "None"
+
+    def value_of_implicit(self, term, scope):
+        raise self.fault("an implicit argument stands in a term")
+
+    def value_of_name(self, term, scope):
+        return self.applied(term, [], scope)
+
+    def value_of_apply(self, term, scope):
+        return self.applied(*flattened(term), scope)
+
+    def value_of_field(self, term, scope):
+        if self.is_member(term, scope):
+            return self.applied(term, [], scope)
+        value = self.value(term[1], scope)
+        return f"{value}[{term[2]}]" if term[2].isdigit() else f"{value}.{python_name(term[2])}"
+
+    def value_of_lambda(self, term, scope):
+        patterns = []
+        for pattern in term[1]:
+            pattern = pattern[1] if pattern[0] == "binder" else pattern
+            patterns += [pattern[1], *pattern[2]] if pattern[0] == "apply" else [pattern]
+        free = self.free(term, scope)
+        name, arguments = self.fresh(f"{self.name}__in"), [f"x{place}" for place in range(len(patterns))]
+        self.write_inner(name, free, arguments, [([*zip(arguments, patterns)], term[2])], scope)
+        given = "".join(f"{scope[one]}, " for one in free)
+        return f"Function({name}, {len(patterns)}, ({given}))"
+
+    def called_apart(self, term, scope):
+        """A call of a function whose statements return the term's value."""
+        free = self.free(term, scope)
+        name = self.fresh(f"{self.name}__in")
+        self.write_inner(name, free, [], [([], term)], scope)
+        return f"{name}({', '.join(scope[one] for one in free)})"
+
+    def free(self, term, scope):
+        return sorted(names_in(term) & scope.keys())
+
+    def write_inner(self, name, free, arguments, clauses, scope):
+        inside = {one: scope[one] for one in free}
+        body = self.body(clauses, inside)
+        self.inner += [f"def {name}({', '.join([inside[one] for one in free] + arguments)}):"] + indented(body)
+
+    # ---- calls
+
+    def is_member(self, term, scope):
+        """Whether a term `a.b` names what a module has."""
+        return term[0] == "field" and term[1][0] == "name" and term[1][1] not in scope and self.project.alias(self.file, term[1][1]) is not None
+
+    def applied(self, head, arguments, scope):
+        if head[0] == "name" and head[1] in scope:
+            return scope[head[1]] + self.further(arguments, scope)
+        if head == ("name", "_"):
+            return "None"
+        if head[0] == "name":
+            return self.call(self.project.resolve(self.file, head[1]), arguments, scope)
+        if self.is_member(head, scope):
+            return self.call(self.project.resolve_in(self.file, head[1][1], head[2]), arguments, scope)
+        return self.value(head, scope) + self.further(arguments, scope)
+
+    def further(self, arguments, scope):
+        return "".join(f"({self.value(argument, scope)})" for argument in arguments)
+
+    def call(self, meaning, arguments, scope):
+        return getattr(self, f"call_of_{meaning.kind}")(meaning, arguments, scope)
+
+    def call_of_type(self, meaning, arguments, scope):
+        return "None"
+
+    def call_of_builtin(self, meaning, arguments, scope):
+        return library.BUILT_IN[meaning.name]
+
+    def call_of_constructor(self, meaning, arguments, scope):
+        given = [self.value(argument, scope) for argument in arguments]
+        if len(given) > meaning.count:
+            raise self.fault(f"`{meaning.name}` has {meaning.count} arguments, and here {len(given)}")
+        if meaning.count == 0:
+            return self.program.shared("value", f"Value({meaning.name!r})")
+        if len(given) < meaning.count:
+            made = self.program.shared("make", f"lambda *parts: Value({meaning.name!r}, parts)")
+            return f"Function({made}, {meaning.count - len(given)}, ({''.join(one + ', ' for one in given)}))"
+        return f"Value({meaning.name!r}, ({''.join(one + ', ' for one in given)}))"
+
+    def call_of_library(self, meaning, arguments, scope):
+        count, python = library.TABLE[str(meaning)]
+        if meaning.name == "codes" and arguments and arguments[0][0] == "text":
+            return self.program.shared("text", f"library_{python_name(str(meaning))}({self.literal(arguments[0][1])})")
+        given = [self.value(argument, scope) for argument in arguments]
+        name = f"library_{python_name(str(meaning))}"
+        if len(given) < count:
+            if not callable(python):
+                names = [f"a{place}" for place in range(count)]
+                name = self.program.shared("function", f"lambda {', '.join(names)}: {python.format(*names)}")
+            return f"Function({name}, {count - len(given)}, ({''.join(one + ', ' for one in given)}))"
+        text = f"{name}({', '.join(given[:count])})" if callable(python) else python.format(*given[:count])
+        return text + "".join(f"({one})" for one in given[count:])
+
+    def literal(self, text):
+        inner = text[1:-1]
+        for old, new in (("\\0", "\\x00"), ("\\'", "'")):
+            inner = inner.replace(old, new)
+        if "\\u" in inner:
+            raise self.fault("a text has an escape that isn't known")
+        return f'"{inner}"'
+
+    def call_of_definition(self, meaning, arguments, scope):
+        declaration = self.project.declaration(meaning)
+        if is_relation(declaration):
+            return "None"
+        if declaration.section and self.declaration.section[:len(declaration.section)] == declaration.section and meaning.path == self.meaning.path:
+            arguments = [("name", name) for name in declaration.section] + list(arguments)
+        count, name = self.program.count(meaning), self.program.want(meaning)
+        given = [self.value(argument, scope) for argument in arguments]
+        if count == 0:
+            return f"{name}()" + "".join(f"({one})" for one in given)
+        if len(given) < count:
+            return f"Function({name}, {count - len(given)}, ({''.join(one + ', ' for one in given)}))"
+        return f"{name}({', '.join(given[:count])})" + "".join(f"({one})" for one in given[count:])
+
+
+class GrowthWriter:
+    """Writes a definition of one of two forms, which go over a list from left to right and change only its other arguments meanwhile:
+
+        f x [] = ..      f x (y ∷ ys) = f X ys          (X without ys)
+        f x [] = []      f x (y ∷ ys) = A ++ f X ys     (A and X without ys; or `A ∷ f X ys`)
+
+    What they found for the beginning of a list is kept, so that a list with further items needs only these."""
+
+    def __init__(self, writer):
+        self.writer, self.clauses = writer, writer.declaration.clauses
+
+    def place(self):
+        """The place of the argument that is a list, if the definition may have one of the forms."""
+        if len(self.clauses) != 2 or not self.writer.program.remembers:
+            return None
+        first, second = (clause.patterns for clause in self.clauses)
+        places = [place for place, pattern in enumerate(first) if pattern == ("name", "[]")]
+        if len(places) != 1 or len(first) < 2:
+            return None
+        place, (head, parts) = places[0], flattened(second[places[0]])
+        others = [pattern for number, pattern in enumerate([*first, *second]) if number % len(first) != place]
+        are_names = all(pattern[0] == "name" and self.writer.constructor(pattern) is None for pattern in others)
+        is_cons = head == ("name", "◌∷◌") and len(parts) == 2 and parts[1][0] == "name" and parts[1][1] != "_"
+        return place if is_cons and are_names else None
+
+    def split(self, place):
+        """The output for an item, a list or None, and the arguments of the call for the items after it, if the second clause has one of the forms."""
+        patterns, term = self.clauses[1].patterns, self.clauses[1].term
+        rest, output = flattened(patterns[place])[1][1], None
+        head, parts = flattened(term)
+        if head in (("name", "◌++◌"), ("name", "◌∷◌")) and len(parts) == 2 and self.clauses[0].term == ("name", "[]"):
+            output = parts[0] if head[1] == "◌++◌" else ("apply", ("name", "◌∷◌"), [parts[0], ("name", "[]")])
+            head, parts = flattened(parts[1])
+        if head != ("name", self.writer.meaning.name) or len(parts) != len(patterns) or parts[place] != ("name", rest):
+            return None
+        others = parts[:place] + parts[place + 1:]
+        if rest in names_in([others, output]) or rest in [name for name in self.variables(patterns, place)]:
+            return None
+        return output, others
+
+    @staticmethod
+    def variables(patterns, place):
+        return [pattern[1] for number, pattern in enumerate(patterns) if number != place]
+
+    def lines(self):
+        place = self.place()
+        found = self.split(place) if place is not None else None
+        if found is None:
+            return None
+        writer, (output, others) = self.writer, found
+        step, names = f"{writer.name}__step", [f"a{number}" for number in range(len(self.clauses[0].patterns))]
+        rest = names[:place] + names[place + 1:]
+        lines = self.step_lines(step, place, output, others)
+        state = f"({''.join(name + ', ' for name in rest)})"
+        lines += [f"def {writer.name}({', '.join(names)}):"]
+        if output is not None:
+            return lines + indented([f"return collected({writer.name!r}, {state}, {step}, {names[place]})[0]"])
+        scope = dict(zip(self.variables(self.clauses[0].patterns, place), rest))
+        scope.pop("_", None)
+        lines += indented([f"{state} = folded({writer.name!r}, {state}, {step}, {names[place]})"] if rest else [])
+        return lines + indented(writer.returned(self.clauses[0].term, scope))
+
+    def step_lines(self, step, place, output, others):
+        """The function from the other arguments and an item to the other arguments after it, and the output."""
+        writer, patterns = self.writer, self.clauses[1].patterns
+        pairs = [(f"state[{number}]", ("name", name)) for number, name in enumerate(self.variables(patterns, place))]
+        tests, scope, bound = writer.matched(pairs + [("item", flattened(patterns[place])[1][0])], {})
+        if tests:
+            # the item's pattern doesn't fit each item: the definition has no clause for others
+            bound = [f"if not ({' and '.join(tests)}):", f"    raise NoClause({str(writer.meaning)!r})"] + bound
+        after = "".join(f"{writer.value(other, scope)}, " for other in others)
+        text = writer.value(output, scope) if output is not None else "None"
+        return [f"def {step}(state, item):"] + indented(bound + [f"return ({after}), {text}"])
+
+
+def field_name(name):
+    """The name of a field in a record of Python's; that of a tuple's field is a number."""
+    return f"_{name}" if name.isdigit() else python_name(name)
+
+
+def indented(lines):
+    return ["    " + line for line in lines]
