@@ -277,6 +277,7 @@ class Declaration:
     line: int
     text: str
     comment: str
+    signature: str = ""
     type: tuple = None
     clauses: list = field(default_factory=list)
     section: tuple = ()
@@ -384,7 +385,7 @@ class File:
         else:
             raise Fault(f"a block that begins with `{words[0]}` is none of those that are known")
         if token.text == ":":
-            self.add(Declaration("definition", tokens[0].text, line, text, comment, section=section))
+            self.add(Declaration("definition", tokens[0].text, line, text, comment, " ".join(re.sub(r"--[^\n]*", "", text).split()), section=section))
             self.declarations[tokens[0].text].type = self.type_of(tokens[at + 1:], tokens[0].text)
         else:
             self.read_clause(tokens, at, line, text, section)

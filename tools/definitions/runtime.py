@@ -312,6 +312,21 @@ def collected(name, state, step, some):
     return List((growth.output, 0, growth.ends[count])), growth.states[count]
 
 
+def all_hold(name, state, step, some):
+    """Whether what `step` says holds for all items of a list. Nothing is asked of items behind one for which it doesn't."""
+    count = some[2] - some[1]
+    growth = GROWN.get((name, state, some[0], some[1]))
+    if growth is None:
+        growth = GROWN[(name, state, some[0], some[1])] = Growth(state)
+    states = growth.states
+    while len(states) <= count and states[-1] is not None:
+        done = len(states) - 1
+        after, holds = step(states[done], at(some, done))
+        if len(states) == done + 1:
+            states.append(after if holds else None)
+    return len(states) > count and states[count] is not None
+
+
 # ---- large stacks
 
 class Late(BaseException):

@@ -196,7 +196,8 @@ class DefinitionWriter:
     def returned(self, term, scope):
         """The statements that return a term's value."""
         if term[0] == "let":
-            tests, inside, bound = self.matched([(self.variable(value := self.fresh("let")), term[1])], scope)
+            value = self.fresh("let")
+            tests, inside, bound = self.matched([(value, term[1])], scope)
             if tests:
                 raise self.fault("the pattern of a `let` may not fit")
             return self.assigned(value, term[2], scope) + bound + self.returned(term[3], inside)
@@ -208,10 +209,6 @@ class DefinitionWriter:
         if term[0] == "do":
             return self.returned(self.of_do(term), scope)
         return [f"return {self.value(term, scope)}"]
-
-    @staticmethod
-    def variable(name):
-        return name
 
     def assigned(self, name, term, scope):
         return [f"{name} = {self.value(term, scope)}"]
@@ -306,13 +303,16 @@ class DefinitionWriter:
         """Whether a term `a.b` names what a module has."""
         return term[0] == "field" and term[1][0] == "name" and term[1][1] not in scope and self.project.alias(self.file, term[1][1]) is not None
 
+    def resolve(self, name):
+        return self.project.resolve(self.file, name)
+
     def applied(self, head, arguments, scope):
         if head[0] == "name" and head[1] in scope:
             return scope[head[1]] + self.further(arguments, scope)
         if head == ("name", "_"):
             return "None"
         if head[0] == "name":
-            return self.call(self.project.resolve(self.file, head[1]), arguments, scope)
+            return self.call(self.resolve(head[1]), arguments, scope)
         if self.is_member(head, scope):
             return self.call(self.project.resolve_in(self.file, head[1][1], head[2]), arguments, scope)
         return self.value(head, scope) + self.further(arguments, scope)
@@ -378,15 +378,16 @@ class DefinitionWriter:
 
 
 class GrowthWriter:
-    """Writes a definition of one of two forms, which go over a list from left to right and change only its other arguments meanwhile:
+    """Writes a definition of one of three forms, which go over a list from left to right and change only its other arguments meanwhile:
 
         f x [] = ..      f x (y ∷ ys) = f X ys          (X without ys)
         f x [] = []      f x (y ∷ ys) = A ++ f X ys     (A and X without ys; or `A ∷ f X ys`)
+        f x [] = true    f x (y ∷ ys) = A && f X ys
 
     What they found for the beginning of a list is kept, so that a list with further items needs only these."""
 
     def __init__(self, writer):
-        self.writer, self.clauses = writer, writer.declaration.clauses
+        self.writer, self.clauses, self.own = writer, writer.declaration.clauses, ("name", writer.meaning.name)
 
     def place(self):
         """The place of the argument that is a list, if the definition may have one of the forms."""
@@ -394,7 +395,7 @@ class GrowthWriter:
             return None
         first, second = (clause.patterns for clause in self.clauses)
         places = [place for place, pattern in enumerate(first) if pattern == ("name", "[]")]
-        if len(places) != 1 or len(first) < 2:
+        if len(places) != 1 or len(first) < 2 or not all(map(self.is_of_library, ("[]", "◌∷◌"))):
             return None
         place, (head, parts) = places[0], flattened(second[places[0]])
         others = [pattern for number, pattern in enumerate([*first, *second]) if number % len(first) != place]
@@ -403,49 +404,54 @@ class GrowthWriter:
         return place if is_cons and are_names else None
 
     def split(self, place):
-        """The output for an item, a list or None, and the arguments of the call for the items after it, if the second clause has one of the forms."""
+        """If the second clause has one of the forms: how the list is gone over, what the item yields, and the other arguments after it."""
         patterns, term = self.clauses[1].patterns, self.clauses[1].term
-        rest, output = flattened(patterns[place])[1][1], None
+        rest, way, output = flattened(patterns[place])[1][1][1], "folded", None
         head, parts = flattened(term)
-        if head in (("name", "◌++◌"), ("name", "◌∷◌")) and len(parts) == 2 and self.clauses[0].term == ("name", "[]"):
-            output = parts[0] if head[1] == "◌++◌" else ("apply", ("name", "◌∷◌"), [parts[0], ("name", "[]")])
-            head, parts = flattened(parts[1])
-        if head != ("name", self.writer.meaning.name) or len(parts) != len(patterns) or parts[place] != ("name", rest):
+        base = self.clauses[0].term
+        if head in (("name", "◌++◌"), ("name", "◌∷◌")) and base == ("name", "[]"):
+            way, output = "collected", parts[0] if head[1] == "◌++◌" else ("apply", ("name", "◌∷◌"), [parts[0], ("name", "[]")])
+        elif head == ("name", "◌&&◌") and base == ("name", "true"):
+            way, output = "all_hold", parts[0]
+        if output is not None and not self.is_of_library(head[1]):
+            return None
+        head, parts = flattened(parts[1] if output is not None else term)
+        if head != self.own or len(parts) != len(patterns) or parts[place] != ("name", rest):
             return None
         others = parts[:place] + parts[place + 1:]
-        if rest in names_in([others, output]) or rest in [name for name in self.variables(patterns, place)]:
-            return None
-        return output, others
+        return None if rest in names_in([others, output]) or rest in self.variables(patterns, place) else (way, output, others)
+
+    def is_of_library(self, name):
+        return {meaning.kind for meaning in self.writer.project.meanings(self.writer.file, name)} == {"library"}
 
     @staticmethod
     def variables(patterns, place):
         return [pattern[1] for number, pattern in enumerate(patterns) if number != place]
 
     def lines(self):
+        """The functions, or None if the definition has another form."""
         place = self.place()
         found = self.split(place) if place is not None else None
         if found is None:
             return None
-        writer, (output, others) = self.writer, found
+        writer, (way, output, others) = self.writer, found
         step, names = f"{writer.name}__step", [f"a{number}" for number in range(len(self.clauses[0].patterns))]
         rest = names[:place] + names[place + 1:]
-        lines = self.step_lines(step, place, output, others)
         state = f"({''.join(name + ', ' for name in rest)})"
-        lines += [f"def {writer.name}({', '.join(names)}):"]
-        if output is not None:
-            return lines + indented([f"return collected({writer.name!r}, {state}, {step}, {names[place]})[0]"])
-        scope = dict(zip(self.variables(self.clauses[0].patterns, place), rest))
-        scope.pop("_", None)
-        lines += indented([f"{state} = folded({writer.name!r}, {state}, {step}, {names[place]})"] if rest else [])
-        return lines + indented(writer.returned(self.clauses[0].term, scope))
+        call = f"{way}({writer.name!r}, {state}, {step}, {names[place]})"
+        if way == "folded":
+            scope = dict(zip(self.variables(self.clauses[0].patterns, place), rest))
+            body = [f"{state} = {call}"] + writer.returned(self.clauses[0].term, {name: one for name, one in scope.items() if name != "_"})
+        else:
+            body = [f"return {call}" + ("[0]" if way == "collected" else "")]
+        return self.step_lines(step, place, output, others) + [f"def {writer.name}({', '.join(names)}):"] + indented(body)
 
     def step_lines(self, step, place, output, others):
-        """The function from the other arguments and an item to the other arguments after it, and the output."""
+        """The function from the other arguments and an item to the other arguments after it, and what the item yields."""
         writer, patterns = self.writer, self.clauses[1].patterns
         pairs = [(f"state[{number}]", ("name", name)) for number, name in enumerate(self.variables(patterns, place))]
         tests, scope, bound = writer.matched(pairs + [("item", flattened(patterns[place])[1][0])], {})
         if tests:
-            # the item's pattern doesn't fit each item: the definition has no clause for others
             bound = [f"if not ({' and '.join(tests)}):", f"    raise NoClause({str(writer.meaning)!r})"] + bound
         after = "".join(f"{writer.value(other, scope)}, " for other in others)
         text = writer.value(output, scope) if output is not None else "None"
