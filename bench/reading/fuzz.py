@@ -7,11 +7,7 @@ sys.path.insert(0, os.path.dirname(os.path.abspath(__file__)))
 import pasm
 from pasm import OPS, DIRECTIVES
 
-prog = sys.argv[1]
-seed = int(sys.argv[2])
-count = int(sys.argv[3])
-found = sys.argv[4]
-rng = random.Random(seed)
+rng = random.Random()
 NAMES = ["A", "B", "C", "X", "Y", "Z", "Q", "R1", "R5", "SP", "PC", "LONGNAME", "a", ".X", "$1"]
 LOCALS = ["1$", "2$", "0$", "70000$"]
 
@@ -294,8 +290,11 @@ def opened_twice(d):
     return library
 
 
-def main():
-    global twice
+def main(words):
+    global prog, twice
+    prog, seed, count, found = words[0], int(words[1]), int(words[2]), words[3]
+    rng.seed(seed)
+    os.makedirs(found, exist_ok=True)
     d = tempfile.mkdtemp()
     twice = opened_twice(d)
     bad = 0
@@ -330,5 +329,5 @@ def main():
     print(f"{bad} of {i + 1} differ")
 
 
-os.makedirs(found, exist_ok=True)
-main()
+if __name__ == "__main__":
+    main(sys.argv[1:])
