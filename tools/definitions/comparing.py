@@ -12,7 +12,7 @@ import tempfile
 import bridge
 from names import Meaning
 from reader import Fault
-from runtime import NoClause, Late, forget, items, of_items, with_large_stack
+from runtime import Late, NoClause, items, of_items, with_large_stack
 from writer import Program
 
 TOP = os.path.dirname(os.path.dirname(os.path.dirname(os.path.realpath(__file__))))
@@ -266,6 +266,3 @@ def examples(machinery, program):
         what, _ = compared_call(machinery, program, ["sim", "-n", STEPS, "P.TAP"], {"P.TAP": tape}, b"Hello, 7\n")
         yield f"run of example {name}.TAP", what
 
-
-def forgotten():
-    forget()

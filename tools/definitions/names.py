@@ -25,10 +25,11 @@ class Meaning:
 
 
 class Project:
-    """All definitions of a repository, read file by file as they are needed."""
+    """All definitions of a repository, read file by file as they are needed. `changes` has pairs of texts by the paths of files: the first becomes the
+    second, for an attempt."""
 
-    def __init__(self, root):
-        self.root, self.files, self.types = root, {}, {}
+    def __init__(self, root, changes=None):
+        self.root, self.files, self.changes = root, {}, changes or {}
 
     def path_of(self, module):
         """The path of a module of the project, if it is one."""
@@ -41,8 +42,17 @@ class Project:
     def file(self, module):
         if module not in self.files:
             path = self.path_of(module)
-            self.files[module] = File(path, module, library.FIXITIES, self.fixities_of) if path else None
+            self.files[module] = File(path, module, self.text(path), library.FIXITIES, self.fixities_of) if path else None
         return self.files[module]
+
+    def text(self, path):
+        """The text of a file, with the change of it, if there is one."""
+        with open(path, encoding="utf-8") as file:
+            text = file.read()
+        old, new = self.changes.get(os.path.relpath(path, self.root), ("", ""))
+        if text.count(old) != 1 and old:
+            raise Fault(f"{path}: `{old}` isn't there exactly once")
+        return text.replace(old, new) if old else text
 
     def fixities_of(self, module):
         file = self.file(module)

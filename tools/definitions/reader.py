@@ -311,14 +311,12 @@ def blocks_of(text, first_line=1):
 
 
 class File:
-    """The declarations and the `use` lines of a file. `fixities_of` finds the operators of another module."""
+    """The declarations and the `use` lines of a file's text. `fixities_of` finds the operators of another module."""
 
-    def __init__(self, path, module, fixities, fixities_of):
-        self.path, self.module, self.fixities, self.fixities_of = path, module, dict(fixities), fixities_of
+    def __init__(self, path, module, text, fixities, fixities_of):
+        self.path, self.module, self.text, self.fixities, self.fixities_of = path, module, text, dict(fixities), fixities_of
         self.declarations, self.uses, self.unknown, self.own_fixities = {}, [], [], {}
-        with open(path, encoding="utf-8") as file:
-            self.text = file.read()
-        self.read_blocks(blocks_of(self.text), ())
+        self.read_blocks(blocks_of(text), ())
 
     def read_blocks(self, blocks, section):
         for line, lines, comment in blocks:
