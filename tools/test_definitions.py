@@ -71,7 +71,7 @@ def comparisons(name, program):
     elif kind == "short":
         yield from answers()
         yield from comparing.random_steps(project, SEED, SHORT_STEPS)
-        yield from comparing.suite_commands(machinery, ("link", "sim"))
+        yield from comparing.suite_commands(machinery, ("link", "sim"), seconds=2)
     else:
         raise SystemExit(f"{name} is no part")
 

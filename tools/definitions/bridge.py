@@ -191,6 +191,10 @@ def play(dialogue, ask, send):
     return dialogue.parts[0]
 
 
+# The definition of a run needs stack for each of its steps.
+MOST_STEPS = 300000
+
+
 def sim(definitions, options, texts, ask, send):
     words = number(options.get("-k", "28672"), 10, "-k")
     if not 4096 <= words <= 28672:
@@ -203,7 +207,9 @@ def sim(definitions, options, texts, ask, send):
         return ended(definitions, "Sim", Value("Err", (Value("Load", (fault,)),)))
     blocks, transfer = loaded
     machine = machine.but({"memory": definitions.stored(blocks, machine.memory)})
-    ran, machine = play(definitions.started(transfer if start is None else start, limit, machine), ask, send)
+    ran, machine = play(definitions.started(transfer if start is None else start, min(limit, MOST_STEPS), machine), ask, send)
+    if ran.steps == MOST_STEPS < limit:
+        raise Fault(f"the program still runs after {MOST_STEPS} steps, and here a run has no more; -n sets a limit")
     return ended(definitions, "Sim", ok(stop=ran.stop), bytes_of(definitions.text_at_stop(ran, machine)))
 
 

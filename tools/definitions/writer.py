@@ -7,7 +7,7 @@ import keyword
 import library
 import runtime
 from names import Meaning, is_relation
-from reader import Fault
+from reader import Fault, arrows_of
 
 TAG = {"true": "{}", "false": "not {}", "zero": "{} == 0", "suc": "{} > 0", "pos": "{} >= 0", "negsuc": "{} < 0", "[]": "{0}[1] == {0}[2]",
        "◌∷◌": "{0}[1] != {0}[2]"}
@@ -45,7 +45,7 @@ def names_in(term, found=None):
 
 
 class Program:
-    """The Python of some definitions and of all that they stand on. `remembers` says whether calls are remembered."""
+    """The Python of some definitions and of all that they stand on. `remembers` says whether calls are remembered, and not only those for numbers."""
 
     def __init__(self, project, remembers=True):
         self.project, self.remembers = project, remembers
@@ -124,8 +124,12 @@ class DefinitionWriter:
             return self.inner + grown
         arguments = [f"a{place}" for place in range(count)]
         body = self.body([([*zip(arguments, clause.patterns)], clause.term) for clause in self.declaration.clauses], {})
-        head = ["@constant"] if count == 0 else ["@remembered"] if self.program.remembers else []
+        head = ["@constant"] if count == 0 else ["@remembered"] if self.program.remembers or self.is_of_numbers() else []
         return self.inner + head + [f"def {self.name}({', '.join(arguments)}):"] + indented(body)
+
+    def is_of_numbers(self):
+        """Whether all arguments are numbers: then calls are few enough to be remembered in a long run, too."""
+        return all(argument == ("name", "ℕ") for argument in arrows_of(self.declaration.type)[0])
 
     # ---- clauses
 
