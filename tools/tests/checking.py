@@ -7,16 +7,17 @@ from tests.proving import Terminal
 from tests.repository import LISTS, PROGRAMS, checks, put
 
 # What each stand-in prints, and its status; by default that it passed once.
-TESTS = ("suite", "tools/test.py", *(f"tools/test_{name}.py" for name in ("devices", "dump", "growths", "limits", "long_sources", "streams", "trace")))
+TESTS = ("suite", "tools/test.py", *(f"tools/test_{name}.py" for name in ("definitions", "devices", "dump", "growths", "limits", "long_sources", "streams", "trace")))
 STAND_IN = """import os, sys
 with open(os.path.join(os.environ["HOME"], "tested"), "a") as file:
     print(*sys.argv, *(os.environ.get(name, "") for name in ("M11", "M11_DUMP", "M11_TRACE")), file=file)
 {0}
 """
 PASSES = 'print("1 passed, 0 failed")'
-# Here the suite and the tests of scripts have two parts each, as the pages have, and the others one each.
+# Here the suite and the tests of scripts have two parts each, as the pages have, and the others one each; of the definitions alone two of the suite,
+# two of wrong definitions, and of the others one each.
 OF_CHECK, HERE = "SUITE_PARTS, SCRIPT_PARTS = 4, 12", "SUITE_PARTS, SCRIPT_PARTS = 2, 2"
-PARTS = 2 + 2 + 2 + 7
+PARTS, DEFINITIONS_PARTS = 2 + 2 + 2 + 8, 2 + 2 + 3
 
 
 def prepare(repository):
@@ -91,6 +92,18 @@ def check_folders(repository):
         repository.expect(f"status of {words}", repository.run(words, "check", has_rt=False)[0], status)
 
 
+def check_definitions(repository):
+    """With --definitions only the comparisons with the definitions run, also if dist/ is of other sources."""
+    prepare(repository)
+    put(repository.at("crates/m11_low/src/lib.rt"), "new\n")
+    expect(repository, "the definitions", ["--definitions"], 0, [f"{DEFINITIONS_PARTS} passed, 0 failed"])
+    with open(repository.beside("tested"), encoding="utf-8") as file:
+        tested = file.read().splitlines()
+    repository.expect("what was tested", [line for line in tested if "tools/test_definitions.py" not in line or "dist/m11" not in line], [])
+    put(repository.at("tools/test_definitions.py"), STAND_IN.format('print("what\\nis wrong"); print("3 passed, 1 failed"); sys.exit(1)'))
+    expect(repository, "what fails", ["--definitions"], 1, ["what", "is wrong"] * DEFINITIONS_PARTS + [f"{3 * DEFINITIONS_PARTS} passed, {DEFINITIONS_PARTS} failed"])
+
+
 def check_terminal_of_check(repository):
     """On a terminal a line is written again for each part, and erased before the last one."""
     prepare(repository)
@@ -152,4 +165,4 @@ def expect_other_bytes(repository, passed):
     repository.expect("what is tested then", out.splitlines().count(f"{PARTS} passed, 0 failed"), 2)
 
 
-CHECKS = checks(check_counts, check_sources_of_dist, check_folders, check_terminal_of_check, check_ci, of="check")
+CHECKS = checks(check_counts, check_sources_of_dist, check_folders, check_definitions, check_terminal_of_check, check_ci, of="check")
