@@ -129,6 +129,8 @@ def found_by(project, name):
     *modules, last = name.split(".") if not name.startswith("◌") else (name,)
     found = []
     for module in project.modules():
+        if last not in project.text(project.path_of(module)):
+            continue
         file = project.file(module)
         parts = [part for part in module.split(".")[1:] if part != "specs"]
         if last in file.declarations and (not modules or parts[-len(modules):] == modules):
