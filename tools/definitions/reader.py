@@ -282,6 +282,8 @@ class Declaration:
     clauses: list = field(default_factory=list)
     section: tuple = ()
     fault: str = None
+    # of a record or a data type: its parameters, each a binder
+    parameters: list = field(default_factory=list)
     # of a record: the names and types of its fields; of a data type: the names and types of its constructors
     parts: list = field(default_factory=list)
 
@@ -339,7 +341,7 @@ class File:
             self.own_fixities[operator] = self.fixities[operator] = (int(words[1]), words[0][5:] or "n")
         else:
             while words[0] in MARKS:
-                text, words = text.split(words[0], 1)[1], words[1:]
+                text, words = text.split(words[0], 1)[1].lstrip(" "), words[1:]
             self.read_declaration(line, text, comment, section, words)
 
     def read_use(self, text):
@@ -417,16 +419,18 @@ class File:
         declaration.clauses.append(Clause([("name", name) for name in section] + patterns, term))
 
     def read_type(self, kind, line, text, comment, section):
-        """A record or a data type, with its fields or its constructors."""
-        head, _, body = re.sub(r"--[^\n]*", "", text).partition("where")
-        name = head.split()[1]
-        declaration = Declaration(kind, name, line, text, comment, section=section)
+        """A record or a data type, with its parameters, and its fields or its constructors."""
+        head, *bodies = re.split(r"(?<=\s)where(?=\s|$)", re.sub(r"--[^\n]*", "", text), maxsplit=1)
+        parser = Parser(tokens_of(head), self.fixities)
+        parser.need(kind)
+        declaration = Declaration(kind, parser.take().text, line, text, comment, " ".join(head.split()), section=section)
         self.add(declaration)
-        declaration.type = ("name", "Type")
-        if not body.strip():
-            return
-        indent = min(len(one) - len(one.lstrip()) for one in body.split("\n") if one.strip())
-        for _, lines, _ in blocks_of("\n".join(one[indent:] for one in body.split("\n") if one.strip())):
+        while parser.token() is not None and not parser.is_next(":"):
+            declaration.parameters.append(parser.atom())
+        declaration.type = parser.term() if parser.skip(":") else ("name", "Type")
+        rows = [one for one in "".join(bodies).split("\n") if one.strip()]
+        indent = min((len(one) - len(one.lstrip()) for one in rows), default=0)
+        for _, lines, _ in blocks_of("\n".join(one[indent:] for one in rows)):
             tokens = tokens_of("\n".join(lines))
             tokens = tokens[1:] if tokens[0].text == "pub" else tokens
             at = next(at for at, token in enumerate(tokens) if token.text == ":")

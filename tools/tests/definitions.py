@@ -143,7 +143,7 @@ def check_strictness():
 # Words of `run`, the status, and a part of what it prints.
 ANSWERS = (
     (("show", "instruction_of", "0o012701"), 0, "(Double Mov Word { mode = Autoincrement; register = Pc } { mode = Register; register = R1 })\n"),
-    (("show", "attributes_text", "0o144"), 0, 'codes "RW,I,GBL,REL,OVR"\n'), (("list", "offset_after"), 0, "1 definitions\n"),
+    (("show", "attributes_text", "0o144"), 0, 'codes "RW,I,GBL,REL,OVR"\n'), (("list", "offset_after"), 0, "1 definition\n"),
     (("show", "register_number", "Pc"), 0, "7\n"), (("show", "nowhere"), 2, "run: no definition has the name `nowhere`"),
     (("show", "Machine"), 2, "run: "), (("show", "IsTape", "1"), 2, "run: `IsTape` is a data type"), (("show", "offset_after", "0o40"), 2, "has 2 arguments, and here 1"),
     (("show", "offset_after", "0o40", "1 ∷"), 2, "the text ends too early"), (("show", "offset_after", "0o40", "true"), 2, "aren't of the types"),
