@@ -34,8 +34,12 @@ def answers():
 
 def found_by(changed, way, program):
     """The first comparison that finds a change of a definition, or None."""
-    ways = {"steps": lambda: comparing.random_steps(changed, SEED, STEPS), "sources": lambda: comparing.random_sources(Machinery(changed), program, SEED, SOURCES)}
-    differences = ways[way]() if way in ways else comparing.suite_commands(Machinery(changed), (way,))
+    if way == "steps":
+        differences = comparing.random_steps(changed, SEED, STEPS)
+    elif way == "sources":
+        differences = comparing.random_sources(Machinery(changed), program, SEED, SOURCES)
+    else:
+        differences = comparing.suite_commands(Machinery(changed), (way,))
     return next((name for name, what in differences if what), None)
 
 

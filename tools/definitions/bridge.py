@@ -2,9 +2,11 @@
 
 Three relations of the definitions are read here by hand as functions: each has one constructor that fits in each state. What else is computed is
 written from the definitions."""
+import functools
+
 from names import Meaning
 from reader import Fault
-from runtime import NIL, Record, Value, append, forget, head, items, length, of_items, single
+from runtime import NIL, Record, Value, append, drop, forget, items, length, of_items, single, take
 from writer import Program
 
 ASM = """m11_asm.Written.program_writes m11_asm.Written.written m11_asm.Written.flagged_count m11_asm.Program.program_of m11_asm_passes.Lines.givens
@@ -80,25 +82,23 @@ def live_lines(definitions, mapping, counting, reading):
     """`PassLines`, `Ends` and `Refuses` of m11_asm_passes and m11_asm: the live lines of a reading, the fault that refuses it or None, and its end."""
     stage, lines, source, read = definitions.start(NIL), NIL, items(reading.lines), 0
     while not stage.has_ended:
+        if length(stage.left) == 0 and read == len(source):
+            fault = definitions.of_lines(reading.fault.parts[0]) if reading.fault.parts else None
+            return lines, fault, Record({"read": read, "has_end": False})
         if length(stage.left) == 0:
-            if read == len(source):
-                fault = definitions.of_lines(reading.fault.parts[0]) if reading.fault.tag == "Some" else None
-                return lines, fault, Record({"read": read, "has_end": False})
             stage, read = definitions.with_line(source[read], stage), read + 1
             continue
         limit, move = definitions.next_fault(stage), definitions.move(stage)
-        if limit.tag == "Some":
+        if limit.parts:
             return lines, definitions.of_unfolding(limit.parts[0]), None
         if move.tag == "Passes":
             stage = move.parts[0]
             continue
-        live, after = move.parts
-        table = definitions.table_at(mapping, lines)
+        (live, after), table = move.parts, definitions.table_at(mapping, lines)
         refused = definitions.line_fault(mapping, table, definitions.counting_at(mapping, counting, lines), live, after)
-        if refused.tag == "Some":
+        if refused.parts:
             return lines, refused.parts[0], None
-        lines = append(lines, single(definitions.numbered(read, definitions.given_by(table, live, after))))
-        stage = definitions.acted(table, live, after)
+        lines, stage = append(lines, single(definitions.numbered(read, definitions.given_by(table, live, after)))), definitions.acted(table, live, after)
     return lines, None, Record({"read": read, "has_end": True})
 
 
@@ -125,21 +125,17 @@ def asm(definitions, options, texts):
 
 def object_items(definitions, data):
     """`ObjectItems` of m11_link/specs/Objects.antt: the items that the bytes of an object yield."""
-    room, rest, found = definitions.most_bytes(), of_items(list(data)), []
-    while True:
-        read = definitions.first_block(rest)
-        left = read.parts[0][1] if read.tag == "Ok" else read.parts[0].parts[-1] if read.parts[0].tag == "Refused" else NIL
-        room -= length(rest) - length(left)
-        if room < 0:
-            return found + [Value("Refused", (Value("TooMuch"),))]
-        if read.tag == "Ok":
-            found.append(Value("BlockOf", (read.parts[0][0],)))
-            rest = left
-        elif read.parts[0].tag == "Between":
-            return found + [Value("ObjectEnds")]
-        else:
-            inner = read.parts[0].parts[0] if read.parts[0].tag == "Refused" else Value("Truncated")
-            return found + [Value("Refused", (Value("Block", (inner,)),))]
+    most, found = definitions.most_bytes(), []
+    rest = of_items(list(data[:most]))
+    while (read := definitions.first_block(rest)).tag == "Ok":
+        content, rest = read.parts[0]
+        found.append(Value("BlockOf", (content,)))
+    stop = read.parts[0]
+    if stop.tag != "Refused" and len(data) > most:
+        return found + [Value("Refused", (Value("TooMuch"),))]
+    if stop.tag == "Between":
+        return found + [Value("ObjectEnds")]
+    return found + [Value("Refused", (Value("Block", (stop.parts[0] if stop.tag == "Refused" else Value("Truncated"),)),))]
 
 
 def link(definitions, options, texts):
@@ -160,23 +156,18 @@ def load(definitions, data, size):
     """`LoadsTape`, `StopsAtPart` and `InsideData` of m11_cpu/specs/Loading.antt: the blocks and the start of a tape, or the fault of its load."""
     most, blocks, read = definitions.most_bytes(), [], definitions.first_part
     rest = of_items(list(data[:most]))
-    missing = {"Between": "TooMuch" if len(data) > most else "NoTransfer", "Inside": "TooMuch" if len(data) > most else "Truncated"}
-    while True:
-        part = read(rest)
-        if part.tag == "Err":
-            stop = part.parts[0]
-            return None, Value("Tape", (stop.parts[0] if stop.tag == "Refused" else Value(missing[stop.tag]),))
-        (part, rest) = part.parts[0]
+    while (part := read(rest)).tag == "Ok":
+        part, rest = part.parts[0]
         if part.tag == "Start":
             return (of_items(blocks), part.parts[0]), None
         address, count = part.parts
         if address + min(count, length(rest)) > size:
             return None, Value("OutsideMemory")
-        if length(rest) < count:
-            return None, Value("Tape", (Value(missing["Inside"]),))
-        content = of_items(items(rest)[:count])
-        blocks.append((address, content))
-        read, rest = (lambda bytes, total=definitions.total_of(address, content): definitions.next_part(total, bytes)), of_items(items(rest)[count:])
+        blocks.append((address, take(count, rest)))
+        read, rest = functools.partial(definitions.next_part, definitions.total_of(*blocks[-1])), drop(count, rest)
+    stop = part.parts[0]
+    missing = "TooMuch" if len(data) > most else "NoTransfer" if stop.tag == "Between" else "Truncated"
+    return None, Value("Tape", (stop.parts[0] if stop.tag == "Refused" else Value(missing),))
 
 
 def play(dialogue, ask, send):

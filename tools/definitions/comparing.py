@@ -130,6 +130,10 @@ class Steps:
         kind = self.random.random()
         return self.random.choice(PLACES) if kind < 0.25 else self.random.randrange(0, 2 * WORDS) & ~1 if kind < 0.6 else self.random.randrange(65536)
 
+    def address(self):
+        """An address in memory, seldom an odd one."""
+        return self.random.randrange(64, 2 * WORDS - 192) & ~(self.random.random() < 0.8)
+
     def code(self):
         """A code of the instruction list, or any word."""
         row = self.random.choice(self.rows)
@@ -145,7 +149,7 @@ class Steps:
             self.put(machine, place, self.code() if self.random.random() < 0.7 else self.word())
         machine.r = [self.word() for _ in range(6)] + [self.random.randrange(64, WORDS - 8) * 2, at]
         if self.random.random() < 0.8:
-            machine.r[:6] = [one if self.random.random() < 0.5 else self.random.randrange(64, 2 * WORDS - 192) & ~(self.random.random() < 0.8) for one in machine.r[:6]]
+            machine.r[:6] = [one if self.random.random() < 0.5 else self.address() for one in machine.r[:6]]
         machine.psw = self.random.randrange(256) & (0o377 if self.random.random() < 0.2 else 0o357)
         if self.random.random() < 0.05:
             # a return from a trap to the next instruction, with a random PSW, half of them with the trace bit

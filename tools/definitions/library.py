@@ -4,7 +4,7 @@ A row has the modules that pass the name on, the name, the number of arguments, 
 tests each at its edges; where a kit is installed, it also compares them with the library's own definitions."""
 import functools
 
-from runtime import NIL, UNIT, Fixed, Function, Growth, List, Record, Value, append, at, collected, cons, drop, folded, get_or, items, length, of_items, set_at, single, take
+from runtime import NIL, Fixed, Function, List, Value, append, at, collected, cons, drop, folded, get_or, items, length, of_items, set_at, single, take
 
 NONE = Value("None")
 LESS, EQUAL, GREATER = Value("Less"), Value("Equal"), Value("Greater")

@@ -42,8 +42,8 @@ def check_lists():
 
 # A definition of the library, its arguments and its value, at its edges.
 EDGES = (
-    ("◌-◌", (3, 5), 0), ("◌-◌", (5, 3), 2), ("◌/◌", (7, 0), 0), ("◌/◌", (7, 2), 3), ("◌%◌", (7, 0), 7), ("◌%◌", (7, 2), 1), ("◌^◌", (0, 0), 1), ("suc", (0,), 1),
-    ("negsuc", (0,), -1), ("negsuc", (6,), -7), ("neg_ℤ", (0,), 0), ("neg_ℤ", (-3,), 3), ("unsigned_abs", (-3,), 3), ("int_div", (-7, 2), -3),
+    ("◌-◌", (3, 5), 0), ("◌-◌", (5, 3), 2), ("◌/◌", (7, 0), 0), ("◌/◌", (7, 2), 3), ("◌%◌", (7, 0), 7), ("◌%◌", (7, 2), 1), ("◌^◌", (0, 0), 1),
+    ("suc", (0,), 1), ("negsuc", (0,), -1), ("negsuc", (6,), -7), ("neg_ℤ", (0,), 0), ("neg_ℤ", (-3,), 3), ("unsigned_abs", (-3,), 3), ("int_div", (-7, 2), -3),
     ("int_div", (7, -2), -3), ("int_div", (-7, -2), 3), ("int_div", (-7, 0), 0), ("int_rem", (-7, 2), -1), ("int_rem", (7, -2), 1), ("int_rem", (-7, 0), -7),
     ("int_lt", (-1, 0), True), ("int_le", (0, -1), False), ("int_div_euclid", (-7, 2), -4), ("int_div_euclid", (-7, -2), 4), ("int_div_euclid", (7, -2), -3),
     ("int_div_euclid", (-8, 2), -4), ("int_div_euclid", (-1, 0), -1), ("int_div_euclid", (5, 0), 0), ("cast_signed", (8, 127), 127),
@@ -83,7 +83,11 @@ def as_python(value):
 
 
 def library_value(python, arguments):
-    return eval(python.format(*(f"given[{place}]" for place in range(len(arguments)))), {**vars(runtime), "given": arguments}) if isinstance(python, str) else python(*arguments)
+    """The value of a row of the library, which is a function or a text with places for the arguments."""
+    if callable(python):
+        return python(*arguments)
+    places = [f"given[{place}]" for place in range(len(arguments))]
+    return eval(python.format(*places), {**vars(runtime), "given": arguments})  # pylint: disable=eval-used
 
 
 def check_library():
@@ -107,11 +111,14 @@ def check_library():
 HEAD = "use Rattle.std.specs.Prelude.{ℕ, ◌+◌, List, [], ◌∷◌, length}\nuse Rattle.m11_other.specs.Other.{five}\n"
 REFUSED = (
     ("value : ℕ\nvalue = length {A = ℕ} (1 ∷ [])\n", "an implicit argument stands in a term"), ("value : ℕ\nvalue = nowhere\n", "isn't the name of anything"),
-    ("five : ℕ\nfive = 6\n\nvalue : ℕ\nvalue = five\n", "is the name of 2 things"), ("strange words of no form\n\nvalue : ℕ\nvalue = 5\n", "none of those that are known"),
+    ("five : ℕ\nfive = 6\n\nvalue : ℕ\nvalue = five\n", "is the name of 2 things"),
+    ("strange words of no form\n\nvalue : ℕ\nvalue = 5\n", "none of those that are known"),
     ("add : ℕ → ℕ → ℕ\nadd x [] = 1\nadd x = λ y. x\n\nvalue : ℕ\nvalue = add 1 2\n", "has clauses of 1 and 2 arguments"), ("value : ℕ\n", "has no clause"),
     ("value : ℕ\nvalue = (1 + 2\n", "`)` was expected"), ("value : ℕ\nvalue = 1 +\n", "the text ends too early"),
-    ("value : ℕ\nvalue = 1 2 ∷\n", "the text ends too early"), ("use Rattle.std.specs.Prelude.{unheard_of}\nvalue : ℕ\nvalue = unheard_of 1\n", "library.py doesn't have"),
-    ("data Two : Type 0 where\n  One : ℕ → Two\n\nvalue : Two\nvalue = One 1 2\n", "has 1 arguments, and here 2"), ("value : Type 0\nvalue = ℕ\n", "is a relation or a type"),
+    ("value : ℕ\nvalue = 1 2 ∷\n", "the text ends too early"),
+    ("use Rattle.std.specs.Prelude.{unheard_of}\nvalue : ℕ\nvalue = unheard_of 1\n", "library.py doesn't have"),
+    ("data Two : Type 0 where\n  One : ℕ → Two\n\nvalue : Two\nvalue = One 1 2\n", "has 1 arguments, and here 2"),
+    ("value : Type 0\nvalue = ℕ\n", "is a relation or a type"),
     ("record value : Type 0 where\n  pub x : ℕ\n", "is a record, which has no value"),
 )
 ACCEPTED = (
@@ -145,7 +152,8 @@ ANSWERS = (
     (("show", "instruction_of", "0o012701"), 0, "(Double Mov Word { mode = Autoincrement; register = Pc } { mode = Register; register = R1 })\n"),
     (("show", "attributes_text", "0o144"), 0, 'codes "RW,I,GBL,REL,OVR"\n'), (("list", "offset_after"), 0, "1 definition\n"),
     (("show", "register_number", "Pc"), 0, "7\n"), (("show", "nowhere"), 2, "run: no definition has the name `nowhere`"),
-    (("show", "Machine"), 2, "run: "), (("show", "IsTape", "1"), 2, "run: `IsTape` is a data type"), (("show", "offset_after", "0o40"), 2, "has 2 arguments, and here 1"),
+    (("show", "Machine"), 2, "run: "), (("show", "IsTape", "1"), 2, "run: `IsTape` is a data type"),
+    (("show", "offset_after", "0o40"), 2, "has 2 arguments, and here 1"),
     (("show", "offset_after", "0o40", "1 ∷"), 2, "the text ends too early"), (("show", "offset_after", "0o40", "true"), 2, "aren't of the types"),
     (("show", "offset_after", "0o40", "[1"), 2, "was expected"), (("sim", "nowhere.TAP"), 2, "run: nowhere.TAP: No such file"),
     (("asm", "P.MAC"), 2, "these words aren't read here"), (("sort",), 2, "these words aren't known"),
