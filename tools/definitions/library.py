@@ -13,7 +13,7 @@ LESS, EQUAL, GREATER = Value("Less"), Value("Equal"), Value("Greater")
 FIXITIES = {"→": (0, "r"), "×": (2, "r"), "≡": (4, "n"), "≢": (4, "n"), "⊎": (1, "r"), "↔": (0, "n"), "<": (50, "n"), "≤": (50, "n"), "==": (40, "n"),
             "∷": (67, "r"), "++": (65, "l"), "+": (65, "l"), "-": (65, "l"), "*": (70, "l"), "/": (70, "l"), "%": (70, "l"), "^": (75, "r"),
             "&&": (35, "l"), "||": (30, "l"), "+ℤ": (6, "l"), "-ℤ": (6, "l"), "*ℤ": (7, "l"), "≤ℤ": (50, "n"), "<ℤ": (50, "n")}
-TYPES = frozenset("ℕ ℤ Bool List Option Result Vec String Ordering Type Unit ⊤ ⊥ → × Global Bor ArrayVec ◌⊎◌ ◌→◌ ◌×◌".split())
+TYPES = frozenset("◌≡◌ ◌≢◌ ◌<◌ ◌≤◌ ◌<ℤ◌ ◌≤ℤ◌ ◌↔◌ ℕ ℤ Bool List Option Result Vec String Ordering Type Unit ⊤ ⊥ → × Global Bor ArrayVec ◌⊎◌ ◌→◌ ◌×◌".split())
 BUILT_IN = {"tt": "UNIT"}
 CONSTRUCTORS = {"Some": 1, "None": 0, "Ok": 1, "Err": 1, "Less": 0, "Equal": 0, "Greater": 0}
 
@@ -254,6 +254,12 @@ ROWS = (
     ("Str.Parse", "digits_value", 2, digits_value), ("Prelude", "string_bytes", 1, "{}"), ("byteorder Endian", "little_bytes", 2, little_bytes),
     ("Str.Parse", "without_leading_plus", 1, lambda text: drop(int(get_or(text, 0, 0) == 43), text)),
 )
+
+# The facts of which relations are made: of each argument whether it is a fact, a value or a function to facts; and the Python of whether it holds.
+FACTS = {"◌×◌": ("ff", "({} and {})"), "◌⊎◌": ("ff", "({} or {})"), "◌→◌": ("ff", "(not {} or {})"), "◌↔◌": ("ff", "({} == {})"),
+         "◌≡◌": ("vv", "is_same({}, {})"), "◌≢◌": ("vv", "(not is_same({}, {}))"), "◌<◌": ("vv", "({} < {})"), "◌≤◌": ("vv", "({} <= {})"),
+         "◌<ℤ◌": ("vv", "({} < {})"), "◌≤ℤ◌": ("vv", "({} <= {})"), "⊤": ("", "True"), "⊥": ("", "False"), "Unit": ("", "True"), "IsTrue": ("v", "{}"),
+         "IsSome": ("v", "({}.tag == 'Some')"), "IsErr": ("v", "({}.tag == 'Err')"), "AllByRecursion": ("pv", "all(map({}, items({})))")}
 
 
 def table():

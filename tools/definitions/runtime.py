@@ -224,6 +224,21 @@ class Record:
         return self.__dict__[f"_{place}"]
 
 
+def is_same(one, other):
+    """Whether two values are equal, part by part."""
+    if isinstance(one, List):
+        return length(one) == length(other) and all(map(is_same, items(one), items(other)))
+    if isinstance(one, tuple):
+        return all(map(is_same, one, other))
+    if isinstance(one, Value):
+        return one.tag == other.tag and all(map(is_same, one.parts, other.parts))
+    if isinstance(one, Record):
+        return all(is_same(part, getattr(other, name)) for name, part in vars(one).items())
+    if isinstance(one, Function):
+        raise NoClause("an equation of functions")
+    return one == other
+
+
 # ---- functions as values
 
 class Function:

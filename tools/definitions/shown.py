@@ -4,7 +4,7 @@ import re
 from names import Meaning, is_relation
 from reader import Clause, Declaration, Fault, Parser, arrows_of, tokens_of
 from runtime import UNIT, Function, List, NoClause, Record, Value, items
-from writer import DefinitionWriter, Program, flattened, global_name
+from writer import DefinitionWriter, FactWriter, Program, global_name, names_of_binder
 
 WIDTH = 120
 
@@ -94,9 +94,9 @@ def argument_of(text, fixities):
         raise Fault(f"the argument `{text}` can't be read: {fault}") from None
 
 
-class QuestionWriter(DefinitionWriter):
-    """Writes a question: a term in the place of a definition, in whose file it is read. Names that the file doesn't have may be those of the library, or
-    constructors of the types that the file names."""
+class Question:
+    """Of a question, a term that is read in the file of a definition: names that the file doesn't have may be those of the library, or constructors of
+    the types that the file names."""
 
     def resolve(self, name):
         found = self.project.meanings(self.file, name)
@@ -105,6 +105,14 @@ class QuestionWriter(DefinitionWriter):
         if not found:
             found = set(constructors_named(self.project, self.file, name))
         return self.project.one_of(found, f"`{name}`") if name != "tt" else Meaning("builtin", "", name)
+
+
+class ValueQuestion(Question, DefinitionWriter):
+    """Writes a question for a value."""
+
+
+class FactQuestion(Question, FactWriter):
+    """Writes a question whether a relation holds."""
 
 
 def constructors_named(project, file, name):
@@ -150,18 +158,24 @@ def definition(project, name):
     if len(found) > 1:
         raise Fault(f"{len(found)} definitions have the name `{name}`; choose one of {', '.join(map(short, found))}")
     declaration = project.declaration(found[0])
-    if declaration.kind != "definition":
+    if declaration.kind == "data" or declaration.kind == "record" and not declaration.parameters:
         raise Fault(f"`{name}` is a {'record' if declaration.kind == 'record' else 'data type'}, which has no value to show")
     return found[0]
 
 
+def number_of_arguments(project, meaning):
+    """How many arguments a definition, or a record of facts, must be given."""
+    declaration = project.declaration(meaning)
+    if declaration.kind == "record":
+        return sum(len(names_of_binder(parameter)) for parameter in declaration.parameters if parameter[0] == "binder")
+    return max(Program(project).count(meaning), len(arrows_of(declaration.type)[0]) if declaration.type else 0)
+
+
 def show(project, name, arguments):
-    """The value of a definition for these arguments, as text."""
+    """The value of a definition for these arguments, as text; of a relation whether it holds."""
     meaning = definition(project, name)
     declaration, file = project.declaration(meaning), project.file(meaning.path)
-    if is_relation(declaration):
-        raise Fault(f"`{name}` is a relation or a type, which has no value to show: {declaration.signature}")
-    wanted = max(project_count(project, meaning), len(arrows_of(declaration.type)[0]) if declaration.type else 0)
+    wanted = number_of_arguments(project, meaning)
     if len(arguments) != wanted:
         raise Fault(f"`{name}` has {wanted} argument{'' if wanted == 1 else 's'}, and here {len(arguments)}: {declaration.signature}")
     terms = [argument_of(text, file.fixities) for text in arguments]
@@ -173,19 +187,15 @@ def show(project, name, arguments):
         raise Fault(f"the arguments aren't of the types that `{name}` has: {declaration.signature}") from None
 
 
-def project_count(project, meaning):
-    return Program(project).count(meaning)
-
-
 def answer(project, meaning, terms):
-    """The value of a definition for terms."""
-    program, file = Program(project), project.file(meaning.path)
+    """The value of a definition for terms, or whether a relation holds of them."""
+    program, file, declaration = Program(project), project.file(meaning.path), project.declaration(meaning)
     own = ("name", meaning.name)
-    question = Declaration("definition", "?", 0, "", "", clauses=[Clause([], ("apply", own, terms) if terms else own)])
-    file.declarations["?"] = question
+    file.declarations["?"] = Declaration("definition", "?", 0, "", "", clauses=[Clause([], ("apply", own, terms) if terms else own)])
     try:
         asked = Meaning("definition", meaning.path, "?")
-        program.texts[asked] = QuestionWriter(program, asked).lines()
+        is_fact = declaration.kind == "record" or is_relation(declaration)
+        program.texts[asked] = (FactQuestion if is_fact else ValueQuestion)(program, asked).lines()
         program.write()
         exec(compile("\n".join(program.texts[asked]), "<question>", "exec"), program.loaded)
         return program.loaded[global_name(asked)]()
@@ -205,6 +215,3 @@ def matching(project, word):
             elif re.search(rf"\b{re.escape(word.lower())}", declaration.comment.lower()):
                 by_comment.append(lines)
     return by_name + by_comment
-
-
-__all__ = ["answer", "definition", "flattened", "matching", "show", "written"]

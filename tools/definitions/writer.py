@@ -65,11 +65,16 @@ class Program:
         lines = []
         while self.waiting:
             meaning = self.waiting.pop()
-            self.texts[meaning] = DefinitionWriter(self, meaning).lines()
+            self.texts[meaning] = self.writer_of(meaning).lines()
             lines += self.texts[meaning]
         names = [f"{name} = {text}" for name, text in self.constants.items()]
         self.constants = {}
         exec(compile("\n".join(names + lines), "<definitions>", "exec"), self.loaded)
+
+    def writer_of(self, meaning):
+        """The writer of a definition, or of a relation."""
+        is_value = self.project.declaration(meaning).kind == "definition" and not is_relation(self.project.declaration(meaning))
+        return (DefinitionWriter if is_value else FactWriter)(self, meaning)
 
     def value(self, meaning):
         """A definition as a value, loaded."""
@@ -119,7 +124,7 @@ class DefinitionWriter:
     def lines(self):
         """The definition's functions: those inside it first."""
         count = self.program.count(self.meaning)
-        grown = GrowthWriter(self).lines() if count else None
+        grown = GrowthWriter(self).lines() if count and not isinstance(self, FactWriter) else None
         if grown:
             return self.inner + grown
         arguments = [f"a{place}" for place in range(count)]
@@ -212,7 +217,11 @@ class DefinitionWriter:
             return self.assigned(value, term[1], scope) + self.body([([(value, pattern)], inner) for pattern, inner in term[2]], scope)
         if term[0] == "do":
             return self.returned(self.of_do(term), scope)
-        return [f"return {self.value(term, scope)}"]
+        return [f"return {self.result(term, scope)}"]
+
+    def result(self, term, scope):
+        """The Python expression of a term that a clause yields."""
+        return self.value(term, scope)
 
     def assigned(self, name, term, scope):
         return [f"{name} = {self.value(term, scope)}"]
@@ -379,6 +388,82 @@ class DefinitionWriter:
         if len(given) < count:
             return f"Function({name}, {count - len(given)}, ({''.join(one + ', ' for one in given)}))"
         return f"{name}({', '.join(given[:count])})" + "".join(f"({one})" for one in given[count:])
+
+
+class FactWriter(DefinitionWriter):
+    """Writes a relation as a function whose value says whether it holds, if no clause has a quantifier: a fact is made of others, of comparisons and of
+    relations. A record of facts holds if all do."""
+
+    def __init__(self, program, meaning):
+        super().__init__(program, meaning)
+        self.is_fact = True
+
+    def lines(self):
+        if self.declaration.kind == "definition":
+            return super().lines()
+        if self.declaration.kind == "data" or not self.declaration.parts:
+            raise self.fault("it is a data type, so it doesn't run")
+        names = [name[1] for parameter in self.declaration.parameters if parameter[0] == "binder" for name in names_of_binder(parameter)]
+        arguments = [f"a{place}" for place in range(len(names))]
+        facts = [self.fact(of, dict(zip(names, arguments))) for _, of in self.declaration.parts]
+        return self.inner + [f"def {self.name}({', '.join(arguments)}):", f"    return {' and '.join(facts)}"]
+
+    def is_of_numbers(self):
+        return False
+
+    def result(self, term, scope):
+        return self.fact(term, scope) if self.is_fact else super().value(term, scope)
+
+    def value(self, term, scope):
+        """Inside a value no term is a fact."""
+        before, self.is_fact = self.is_fact, False
+        try:
+            return super().value(term, scope)
+        finally:
+            self.is_fact = before
+
+    def fact(self, term, scope):
+        """The Python expression of whether a fact holds."""
+        before, self.is_fact = self.is_fact, True
+        try:
+            head, parts = flattened(term)
+            if head[0] in ("if", "let", "elim", "do"):
+                return self.called_apart(term, scope)
+            if head[0] == "name" and head[1] in scope:
+                return self.applied(head, parts, scope)
+            if head[0] != "name":
+                raise self.fault("it has a quantifier, or is a type of values, so it doesn't run")
+            return self.fact_by(self.resolve(head[1]), parts, scope)
+        finally:
+            self.is_fact = before
+
+    def fact_by(self, meaning, parts, scope):
+        if meaning.kind in ("type", "builtin") and meaning.name in library.FACTS and meaning.path.startswith("library"):
+            kinds, text = library.FACTS[meaning.name]
+            if len(parts) >= len(kinds):
+                ways = {"f": self.fact, "v": self.value, "p": self.predicate, "_": lambda part, scope: ""}
+                return text.format(*(ways[kind](part, scope) for kind, part in zip(kinds, parts)))
+        if meaning.path.startswith("Rattle.m11") and ".declared." not in meaning.path and meaning.kind in ("definition", "type"):
+            return f"{self.program.want(meaning)}({', '.join(self.value(part, scope) for part in parts)})"
+        raise self.fault(f"`{meaning.name}` isn't a fact that runs: it is a value, or a relation with a quantifier")
+
+    def predicate(self, term, scope):
+        """A function whose values are facts."""
+        head, parts = flattened(term)
+        if term[0] == "lambda":
+            self.is_fact = True
+            return self.value_of_lambda(term, scope)
+        count = len(parts) + 1
+        if head[0] == "name" and head[1] not in scope:
+            given = "".join(f"{self.value(part, scope)}, " for part in parts)
+            return f"Function({self.program.want(self.resolve(head[1]))}, {count - len(parts)}, ({given}))"
+        return self.value(term, scope)
+
+
+def names_of_binder(binder):
+    """The names of `(x y : A)`, as terms."""
+    head, parts = flattened(binder[1])
+    return [head, *parts]
 
 
 class GrowthWriter:

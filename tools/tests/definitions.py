@@ -108,7 +108,7 @@ def check_library():
 
 
 # Definitions that are refused, each with a part of the sentence. They follow a head that has the library's names.
-HEAD = "use Rattle.std.specs.Prelude.{ℕ, ◌+◌, List, [], ◌∷◌, length}\nuse Rattle.m11_other.specs.Other.{five}\n"
+HEAD = "use Rattle.std.specs.Prelude.{ℕ, ◌+◌, ◌≡◌, ◌<◌, List, [], ◌∷◌, length}\nuse Rattle.m11_other.specs.Other.{five}\n"
 REFUSED = (
     ("value : ℕ\nvalue = length {A = ℕ} (1 ∷ [])\n", "an implicit argument stands in a term"), ("value : ℕ\nvalue = nowhere\n", "isn't the name of anything"),
     ("five : ℕ\nfive = 6\n\nvalue : ℕ\nvalue = five\n", "is the name of 2 things"),
@@ -118,12 +118,14 @@ REFUSED = (
     ("value : ℕ\nvalue = 1 2 ∷\n", "the text ends too early"),
     ("use Rattle.std.specs.Prelude.{unheard_of}\nvalue : ℕ\nvalue = unheard_of 1\n", "library.py doesn't have"),
     ("data Two : Type 0 where\n  One : ℕ → Two\n\nvalue : Two\nvalue = One 1 2\n", "has 1 arguments, and here 2"),
-    ("value : Type 0\nvalue = ℕ\n", "is a relation or a type"),
+    ("value : Type 0\nvalue = ℕ\n", "`ℕ` isn't a fact that runs"),
+    ("value : Type 0\nvalue = (x : ℕ) × (x ≡ 1)\n", "it has a quantifier"),
     ("record value : Type 0 where\n  pub x : ℕ\n", "is a record, which has no value"),
 )
 ACCEPTED = (
     ("infixl 10 ◌⊕◌\n◌⊕◌ : ℕ → ℕ → ℕ\nx ⊕ y = x + y + 1\n\nvalue : ℕ\nvalue = 1 ⊕ 2 ⊕ 3\n", "0o10"), ("value : ℕ\nvalue = let x = five in x + x\n", "0o12"),
     ("after : ℕ → List ℕ → ℕ\nafter n [] = n\nafter n (x ∷ xs) = after (n + n + x) xs\n\nvalue : ℕ\nvalue = after 1 (1 ∷ 2 ∷ [])\n", "0o10"),
+    ("value : Type 0\nvalue = (1 ∷ [] ≡ 1 ∷ []) × (five < 6)\n", "true"), ("value : Type 0\nvalue = five < 5\n", "false"),
     ("value : List ℕ\nvalue = elim (1 ∷ 2 ∷ []) [ [] ↦ [] | x ∷ xs ↦ xs ]\n", "[2]"),
 )
 
