@@ -239,6 +239,10 @@ def is_same(one, other):
     return one == other
 
 
+def fits_signed(bits, number):
+    return -(1 << bits - 1) <= number < 1 << bits - 1
+
+
 # ---- functions as values
 
 class Function:

@@ -57,9 +57,25 @@ EDGES = (
     ("replicate", (0, 5), []), ("sum", ([],), 0), ("join_with_byte", (44, []), []), ("join_with_byte", (44, [[1], [], [2]]), [1, 44, 44, 2]),
     ("concat", ([[1], [], [2]],), [1, 2]), ("enumerate_from", (3, [7, 8]), [(3, 7), (4, 8)]), ("keys_of", ([(1, 2), (3, 4)],), [1, 3]),
 )
+FIVE, NONE, OK, ERR = library.some(5), library.NONE, runtime.Value("Ok", (5,)), runtime.Value("Err", (6,))
+ONES = (
+    ("zero", (), 0), ("true", (), True), ("false", (), False), ("[]", (), []), ("w8", (), 8), ("w16", (), 16), ("w32", (), 32), ("pos", (0,), 0),
+    ("◌+◌", (0, 0), 0), ("◌*◌", (0, 5), 0), ("◌+ℤ◌", (-5, 2), -3), ("◌-ℤ◌", (2, 5), -3), ("◌*ℤ◌", (-2, 3), -6), ("◌==◌", (2, 2), True),
+    ("nat_eq", (2, 3), False), ("int_eq", (-2, -2), True), ("beq", (False, False), True), ("not", (False,), True), ("◌&&◌", (True, False), False), ("◌||◌", (False, True), True),
+    ("cond", (True, 1, 2), 1), ("if◌then◌else◌", (False, 1, 2), 2), ("nat_cmp", (2, 3), "Less"), ("nat_cmp", (3, 3), "Equal"), ("nat_cmp", (4, 3), "Greater"),
+    ("ordering_then", (library.EQUAL, library.LESS), "Less"), ("ordering_then", (library.GREATER, library.LESS), "Greater"), ("unwrap_or", (FIVE, 1), 5),
+    ("unwrap_or", (NONE, 1), 1), ("option_or", (NONE, FIVE), "Some 5"), ("option_or", (FIVE, NONE), "Some 5"), ("option_to_list", (NONE,), []),
+    ("option_to_list", (FIVE,), [5]), ("is_some", (FIVE,), True), ("is_some", (NONE,), False), ("is_none", (NONE,), True), ("is_ok", (OK,), True),
+    ("is_ok", (ERR,), False), ("result_unwrap_or", (OK, 1), 5), ("result_unwrap_or", (ERR, 1), 1), ("cons_option", (NONE, [1]), [1]),
+    ("cons_option", (FIVE, [1]), [5, 1]), ("length", ([],), 0), ("slice_index_or", ([1], 5, 9), 9), ("◌∷◌", (1, []), [1]),
+    ("◌++◌", ([], [1]), [1]), ("◌++◌", ([1], []), [1]), ("string_bytes", ([1],), [1]), ("codes", ("A\n",), [65, 10]), ("codes", ("",), []),
+)
 ODD = runtime.Function(lambda number: number % 2 == 1, 1)
 SAME = runtime.Function(lambda one, other: one == other, 2)
+HALVES = runtime.Function(lambda number: runtime.of_items([number] * (number // 2)), 1)
+HALF = runtime.Function(lambda number: library.some(number // 2) if number % 2 == 0 else library.NONE, 1)
 ADDED = runtime.Function(lambda one, other: 2 * one + other, 2)
+HALF_OR_ONE = runtime.Function(lambda number: number // 2 if number % 2 == 0 else 1, 1)
 COMPARED = runtime.Function(library.compared, 2)
 WITH_FUNCTIONS = (
     ("map", (ODD, [1, 2]), [True, False]), ("filter", (ODD, [2, 1, 3]), [1, 3]), ("find", (ODD, [2]), "None"), ("find", (ODD, [2, 5, 7]), "Some 5"),
@@ -68,6 +84,10 @@ WITH_FUNCTIONS = (
     ("fold", (ADDED, 1, []), 1), ("before_first", (ODD, [2, 1, 4]), [2]), ("after_first", (ODD, [2, 1, 4]), [4]), ("after_first", (ODD, [2]), []),
     ("lookup", (ODD, [(2, 0), (3, 8), (5, 9)]), "Some 8"), ("insert_key", (SAME, [1, 2], 2), [1, 2]), ("insert_key", (SAME, [1], 2), [1, 2]),
     ("insert_entry", (SAME, [(1, 5), (2, 6)], 1, 7), [(1, 7), (2, 6)]), ("insert_entry", (SAME, [], 1, 7), [(1, 7)]), ("slice_get", ([4], 1), "None"),
+    ("flat_map", (HALVES, [1, 4, 0, 2]), [4, 4, 2]), ("filter_map", (HALF, [1, 4, 2]), [2, 1]), ("sum_by", (HALF_OR_ONE, []), 0),
+    ("sum_by", (HALF_OR_ONE, [4, 3]), 3), ("option_map", (ODD, FIVE), "Some True"), ("option_map", (ODD, NONE), "None"),
+    ("option_and_then", (HALF, FIVE), "None"), ("option_and_then", (HALF, NONE), "None"), ("option_map_or", (ODD, FIVE, 7), True),
+    ("option_map_or", (ODD, NONE, 7), 7), ("insert_all", (SAME, [1, 2], [3, 2, 3]), [1, 2, 3]),
 )
 
 
@@ -95,8 +115,9 @@ def check_library():
     wrong, rows = [], {}
     for path, (count, python) in library.TABLE.items():
         if "BTreeSet" not in path and ("insert_all" not in path or "IndexSet" in path):
-            rows.setdefault(path.rsplit(".", 1)[1] if not path.endswith("◌") else path[path.index("◌"):], (count, python))
-    for name, arguments, wanted in EDGES + WITH_FUNCTIONS:
+            rows.setdefault(path.split(".specs.")[1].rsplit(".", 1)[1], (count, python))
+    wrong += [f"{name} isn't tested" for name in rows.keys() - {row[0] for row in ONES + EDGES + WITH_FUNCTIONS}]
+    for name, arguments, wanted in ONES + EDGES + WITH_FUNCTIONS:
         count, python = rows[name]
         found = as_python(library_value(python, [as_list(argument) for argument in arguments]))
         if count != len(arguments) or found != wanted:
