@@ -12,7 +12,7 @@ import tempfile
 import bridge
 from names import Meaning
 from reader import Fault
-from runtime import Late, NoClause, items, of_items, with_large_stack
+from runtime import WRONG_TYPE, Late, NoClause, items, of_items, sentence_on, with_large_stack
 from writer import Program
 
 TOP = os.path.dirname(os.path.dirname(os.path.dirname(os.path.realpath(__file__))))
@@ -101,8 +101,8 @@ def suite_commands(machinery, commands, part=(1, 1), seconds=None):
                     yield f"{name}, command {place}", None if is_slow else compared_command(machinery, command, files, seconds or LIMIT)
                 except Late:
                     yield f"{name}, command {place}", None if seconds else f"it takes longer than {LIMIT} seconds"
-                except NoClause as missing:
-                    yield f"{name}, command {place}", f"no clause of {missing} fits"
+                except (NoClause, *WRONG_TYPE) as error:
+                    yield f"{name}, command {place}", sentence_on(error)
             files.update((path.decode("utf-8", "surrogateescape"), content) for path, content in command.outputs.items())
 
 
@@ -191,7 +191,10 @@ def random_steps(project, seed, count):
     """At least this many steps of random machines."""
     steps, done = Steps(project, seed), 0
     while done < count:
-        what, made = with_large_stack(steps.compared, 4)
+        try:
+            what, made = with_large_stack(steps.compared, 4)
+        except (NoClause, *WRONG_TYPE) as error:
+            what, made = sentence_on(error), 1
         done += made
         yield f"machine with step {done} of seed {seed}", what
 
@@ -218,8 +221,8 @@ def compared_call(machinery, program, words, files, given=b"", seconds=60):
         done, made = made_by(program, folder, words, given)
     try:
         found, sent = outcome(machinery, words[0], words[1:], files, given, seconds)
-    except NoClause as missing:
-        return f"no clause of {missing} fits", made
+    except (NoClause, *WRONG_TYPE) as error:
+        return sentence_on(error), made
     pairs = [("the status", found.status, done.returncode), ("standard error", found.messages, done.stderr), ("standard output", sent, done.stdout)]
     return first_difference(pairs + [(name, found.outputs.get(name), content) for name, content in made.items() if found.status < 2]), made
 

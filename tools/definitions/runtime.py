@@ -3,8 +3,10 @@
 ℕ and ℤ are integers, Bool is bool, a pair is a tuple, and a type is None."""
 import ctypes
 import functools
+import gc
 import sys
 import threading
+import traceback
 
 UNIT = ()
 STACK = 1 << 30
@@ -12,6 +14,18 @@ STACK = 1 << 30
 
 class NoClause(Exception):
     """No clause of a definition fits its arguments."""
+
+
+# What happens if a definition gets a value of another type, such as a record without the field that it asks for: types aren't checked here.
+WRONG_TYPE = (AttributeError, TypeError, IndexError, KeyError, ValueError)
+
+
+def sentence_on(error):
+    """A sentence on NoClause or WRONG_TYPE, with the definition in which it happened."""
+    if isinstance(error, NoClause):
+        return f"no clause of `{error}` fits"
+    names = [frame.name for frame in traceback.extract_tb(error.__traceback__) if frame.filename == "<definitions>"]
+    return f"`{names[-1].split('__in_')[0] if names else '?'}` gets a value of another type than it asks for: {error}"
 
 
 # ---- lists
@@ -362,6 +376,8 @@ def with_large_stack(function, *given, seconds=None):
         except BaseException as raised:  # whatever it is, the caller gets it
             done.append((None, raised))
 
+    # there are no cycles among values, and to look for some takes a fifth of the time
+    gc.disable()
     sys.setrecursionlimit(10 ** 7)
     threading.stack_size(STACK - 4096)
     thread = threading.Thread(target=call, daemon=True)

@@ -3,7 +3,7 @@ import re
 
 from names import Meaning, is_relation
 from reader import Clause, Declaration, Fault, Parser, arrows_of, tokens_of
-from runtime import UNIT, Function, List, NoClause, Record, Value, items
+from runtime import UNIT, WRONG_TYPE, Function, List, NoClause, Value, items
 from writer import DefinitionWriter, FactWriter, Program, global_name, names_of_binder
 
 WIDTH = 120
@@ -183,7 +183,7 @@ def show(project, name, arguments):
         return written(answer(project, meaning, terms))
     except NoClause as missing:
         raise Fault(f"no clause of `{missing}` fits these arguments: {declaration.signature}") from None
-    except (AttributeError, TypeError, IndexError, KeyError, ValueError):
+    except WRONG_TYPE:
         raise Fault(f"the arguments aren't of the types that `{name}` has: {declaration.signature}") from None
 
 

@@ -2,6 +2,7 @@
 
 Types are None. A λ, and a `let` or `elim` inside a term, is a function of its own, whose first arguments are the variables that it uses, so that equal
 ones are equal values. Definitions of two forms that go over a list keep what they found for its beginning (`Growth` in runtime.py)."""
+import functools
 import keyword
 
 import library
@@ -14,6 +15,7 @@ TAG = {"true": "{}", "false": "not {}", "zero": "{} == 0", "suc": "{} > 0", "pos
 INNER = {"suc": ("({} - 1)",), "pos": ("{}",), "negsuc": ("(-{} - 1)",), "◌∷◌": ("head({})", "tail({})")}
 
 
+@functools.lru_cache(None)
 def python_name(text):
     """The text as a name of Python."""
     name = "".join(one if one.isascii() and (one.isalnum() or one == "_") else f"_{ord(one):x}_" for one in text)
