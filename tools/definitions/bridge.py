@@ -3,6 +3,7 @@
 Three relations of the definitions are read here by hand as functions: each has one constructor that fits in each state. What else is computed is
 written from the definitions."""
 import functools
+import os
 
 from names import Meaning
 from reader import Fault
@@ -15,10 +16,11 @@ ASM = """m11_asm.Written.program_writes m11_asm.Written.written m11_asm.Written.
     m11_asm_passes.Lines.counting_at m11_asm_passes.Lines.table_at m11_asm_passes.Lines.numbered m11_asm_faults.Faults.of_unfolding
     m11_asm_faults.Faults.of_lines m11_asm_rules.Meanings.empty_map m11_asm_lines.Counting.none_used"""
 LINK = """m11_obj_blocks.Blocks.first_block m11_obj_blocks.Limited.most_bytes m11_link.Objects.outcome m11_link_text.Findings.findings_of
-    m11_link.Written.link_writes m11_link.Written.counted"""
+    m11_link.Written.link_writes m11_link.Written.counted m11_cli_tasks.Commands.default_bottom"""
 SIM = """m11_obj_blocks.Tapes.first_part m11_obj_blocks.Tapes.next_part m11_obj_blocks.Tapes.total_of m11_obj_blocks.Limited.most_bytes
-    m11_cpu_machine.Machine.new_machine m11_cpu.Loading.stored m11_cpu.Simulation.started m11_cpu.Simulation.text_at_stop"""
-BOTH = "m11_cli.FaultLines.line_of m11_cli.Outcome.status_of"
+    m11_cpu_machine.Machine.new_machine m11_cpu.Loading.stored m11_cpu.Simulation.started m11_cpu.Simulation.text_at_stop
+    m11_cli_tasks.Commands.default_steps m11_cli_tasks.Commands.most_words"""
+ALL = "m11_cli.FaultLines.line_of m11_cli.Outcome.status_of m11_cli_reports.Lines.open_line"
 
 
 class Definitions:
@@ -27,7 +29,7 @@ class Definitions:
     def __init__(self, project, roots, remembers=True):
         program = Program(project, remembers)
         found = {}
-        for root in (roots + " " + BOTH).split():
+        for root in (roots + " " + ALL).split():
             crate, module, name = root.split(".")
             meaning = Meaning("definition", f"Rattle.{crate}.specs.{module}", name)
             if project.file(meaning.path) is None or name not in project.file(meaning.path).declarations:
@@ -116,6 +118,7 @@ def assembled(definitions, sources):
 
 
 def asm(definitions, options, texts):
+    """The outcome of an assembly of these sources."""
     result, writes, _, _ = assembled(definitions, texts)
     outputs = {options[word]: written_to(output, writes) for word, output in (("-o", "Product"), ("-l", "Report")) if word in options}
     return ended(definitions, "Asm", result, written_to("Messages", writes), outputs)
@@ -139,9 +142,8 @@ def object_items(definitions, data):
 
 
 def link(definitions, options, texts):
-    bottom = number(options.get("-b", "1000"), 8, "-b")
-    if bottom % 2 or bottom > 0o157776:
-        raise Fault("-b must be even, and at most 157776")
+    """The outcome of a link of these objects."""
+    bottom = options.get("-b", definitions.default_bottom())
     parts = definitions.outcome(bottom, of_items([item for text in texts for item in object_items(definitions, text)]))
     if parts.tag == "Err":
         return ended(definitions, "Link", parts, outputs={options[word]: b"" for word in ("-o", "-m") if word in options})
@@ -187,11 +189,8 @@ MOST_STEPS = 300000
 
 
 def sim(definitions, options, texts, ask, send):
-    words = number(options.get("-k", "28672"), 10, "-k")
-    if not 4096 <= words <= 28672:
-        raise Fault("-k must be from 4096 to 28672")
-    limit = number(options.get("-n", str(2 ** 64 - 1)), 10, "-n")
-    start = number(options["-s"], 8, "-s") if "-s" in options else None
+    """The outcome of a run of a tape."""
+    words, limit, start = options.get("-k", definitions.most_words()), options.get("-n", definitions.default_steps()), options.get("-s")
     machine = definitions.new_machine(words)
     loaded, fault = load(definitions, texts[0], 2 * words)
     if fault is not None:
@@ -207,11 +206,16 @@ def sim(definitions, options, texts, ask, send):
 # ---- words
 
 OPTIONS = {"asm": ("-o", "-l"), "link": ("-o", "-m", "-b"), "sim": ("-n", "-s", "-k")}
+# Of an option with a number: its base, the least and the greatest, and whether it must be even.
+NUMBERS = {"-b": (8, 0, 0o157776, True), "-s": (8, 0, 0o157776, True), "-k": (10, 4096, 28672, False), "-n": (10, 0, 10 ** 9, False)}
 
 
-def number(text, base, option):
-    if not text.isascii() or not text.isdigit() or base == 8 and set(text) & {"8", "9"} or int(text, base) >= 2 ** (16 if base == 8 else 64):
-        raise Fault(f"{option} needs a number, and `{text}` is none that it may have")
+def number(option, text):
+    """The value of an option with a number."""
+    base, least, greatest, is_even = NUMBERS[option]
+    is_number = text.isascii() and text.isdigit() and not (base == 8 and set(text) & {"8", "9"})
+    if not is_number or not least <= int(text, base) <= greatest or is_even and int(text, base) % 2:
+        raise Fault(f"`{option} {text}` isn't read here")
     return int(text, base)
 
 
@@ -221,7 +225,7 @@ def words_of(command, words):
     while waiting:
         word = waiting.pop(0)
         if word in OPTIONS[command] and waiting and word not in options:
-            options[word] = waiting.pop(0)
+            options[word] = number(word, waiting.pop(0)) if word in NUMBERS else waiting.pop(0)
         elif word.startswith("-") and word != "-":
             raise Fault(f"`{command} {' '.join(words)}`: these words aren't read here; `{word}` is no option of {command}, is there twice, or lacks its value")
         else:
@@ -232,11 +236,17 @@ def words_of(command, words):
 
 
 def run(machinery, command, words, read, ask=lambda: None, send=lambda byte: None):
-    """The outcome of a command. `read` gives the bytes of a file, `ask` the next byte of the console or None, and `send` takes one."""
+    """The outcome of a command. `read` gives the bytes of a file, or None if there is none, `ask` the next byte of the console or None, and `send` takes
+    one."""
     options, files = words_of(command, words)
-    texts = [read(file) for file in files]
     definitions = machinery.of(command)
     try:
+        texts = []
+        for file in files:
+            texts.append(read(file))
+            if texts[-1] is None:
+                line = definitions.open_line(of_items(list(os.fsencode(file))))
+                return Outcome(definitions.status_of(Value("NotOpened")), bytes_of(line))
         if command == "sim":
             return sim(definitions, options, texts, ask, send)
         return {"asm": asm, "link": link}[command](definitions, options, texts)

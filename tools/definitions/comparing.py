@@ -54,7 +54,7 @@ def first_difference(pairs):
 def outcome(machinery, command, words, files, given, seconds):
     """What the definitions say of a command, and the bytes that it sends to the console."""
     waiting, sent = list(given), bytearray()
-    found = with_large_stack(bridge.run, machinery, command, words, lambda path: files[path], lambda: waiting.pop(0) if waiting else None, sent.append,
+    found = with_large_stack(bridge.run, machinery, command, words, files.get, lambda: waiting.pop(0) if waiting else None, sent.append,
                              seconds=seconds)
     return found, bytes(sent)
 
@@ -72,21 +72,16 @@ def cases():
 
 
 def compared_command(machinery, command, files, seconds):
-    """What differs in a command of a case; None if its words or files aren't for the definitions."""
+    """What differs in a command of a case; None if its words aren't for the definitions."""
     words = [word.decode("utf-8", "surrogateescape") for word in command.words]
     try:
-        _, paths = bridge.words_of(words[0], words[1:])
-        if any(path not in files for path in paths):
-            return None
         found, sent = outcome(machinery, words[0], words[1:], files, command.streams["stdin"], seconds)
     except Fault:
         return None
     wanted = {path.decode("utf-8", "surrogateescape"): content for path, content in command.outputs.items()}
     pairs = [("the status", found.status, command.status), ("standard error", found.messages, command.streams["stderr"]),
              ("standard output", sent, command.streams["stdout"])]
-    # a refused assembly leaves files that end somewhere, so only those of one that isn't are compared
-    whole = found.status < 2 or words[0] == "sim"
-    return first_difference(pairs + ([(path, found.outputs.get(path), content) for path, content in wanted.items()] if whole else []))
+    return first_difference(pairs + [(path, found.outputs.get(path), wanted.get(path)) for path in sorted(found.outputs.keys() | wanted.keys())])
 
 
 def suite_commands(machinery, commands, part=(1, 1), seconds=None):
@@ -224,7 +219,7 @@ def compared_call(machinery, program, words, files, given=b"", seconds=60):
     except (NoClause, *WRONG_TYPE) as error:
         return sentence_on(error), made
     pairs = [("the status", found.status, done.returncode), ("standard error", found.messages, done.stderr), ("standard output", sent, done.stdout)]
-    return first_difference(pairs + [(name, found.outputs.get(name), content) for name, content in made.items() if found.status < 2]), made
+    return first_difference(pairs + [(name, found.outputs.get(name), made.get(name)) for name in sorted(found.outputs.keys() | made.keys())]), made
 
 
 def random_sources(machinery, program, seed, count):

@@ -259,7 +259,8 @@ ROWS = (
 FACTS = {"◌×◌": ("ff", "({} and {})"), "◌⊎◌": ("ff", "({} or {})"), "◌→◌": ("ff", "(not {} or {})"), "◌↔◌": ("ff", "({} == {})"),
          "◌≡◌": ("vv", "is_same({}, {})"), "◌≢◌": ("vv", "(not is_same({}, {}))"), "◌<◌": ("vv", "({} < {})"), "◌≤◌": ("vv", "({} <= {})"),
          "◌<ℤ◌": ("vv", "({} < {})"), "◌≤ℤ◌": ("vv", "({} <= {})"), "⊤": ("", "True"), "⊥": ("", "False"), "Unit": ("", "True"), "IsTrue": ("v", "{}"),
-         "FitsSigned": ("vv", "fits_signed({}, {})"), "IsSome": ("v", "({}.tag == 'Some')"), "IsErr": ("v", "({}.tag == 'Err')"), "AllByRecursion": ("pv", "all(map({}, items({})))")}
+         "FitsSigned": ("vv", "fits_signed({}, {})"), "IsSome": ("v", "({}.tag == 'Some')"), "IsErr": ("v", "({}.tag == 'Err')"),
+         "AllByRecursion": ("pv", "all(map({}, items({})))")}
 
 
 def table():

@@ -88,6 +88,7 @@ class Project:
         return self.meanings(file, name) if file else frozenset()
 
     def member_of_library(self, module, name):
+        """A name of the library: one of its rows, a constructor, or a type, which begins with a capital."""
         if f"{module}.{name}" in library.TABLE:
             return frozenset([Meaning("library", module, name, library.TABLE[f"{module}.{name}"][0])])
         if name in library.CONSTRUCTORS:
@@ -130,6 +131,7 @@ class Project:
         return self.one_of(found, f"{file.path}: `{name}`")
 
     def one_of(self, found, what):
+        """The only one of some meanings; a sentence if there is none, or more than one."""
         if not found:
             raise Fault(f"{what} isn't the name of anything")
         if len(found) > 1:

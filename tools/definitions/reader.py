@@ -137,6 +137,7 @@ class Parser:
         return ("if", test, holds, self.term(5))
 
     def let(self):
+        """After `let`: a pattern, perhaps its type, which is passed over, its value, and the term in which it stands."""
         pattern = self.atom()
         if self.skip(":"):
             self.term()
@@ -146,6 +147,7 @@ class Parser:
         return ("let", pattern, value, self.term())
 
     def elim(self):
+        """After `elim`: a value, and its cases between brackets."""
         value = self.application()
         if self.skip("as"):
             self.application()
@@ -176,6 +178,7 @@ class Parser:
         return ("do", steps[:-1], steps[-1][1])
 
     def starts_atom(self):
+        """Whether the next token begins an argument."""
         token = self.token()
         if token is None:
             return False
@@ -184,6 +187,7 @@ class Parser:
         return token.kind == "text" or token.text in ("(", "{")
 
     def application(self):
+        """A term without operators: a function and its arguments."""
         function, arguments = self.atom(), []
         while self.starts_atom():
             arguments.append(self.atom())
@@ -192,6 +196,7 @@ class Parser:
         return ("apply", function, arguments) if arguments else function
 
     def atom(self):
+        """A term without arguments, and the fields that are taken of it."""
         token = self.take()
         if token.kind == "text":
             term = ("text", token.text)
@@ -214,6 +219,7 @@ class Parser:
         return term
 
     def parenthesis(self):
+        """After `(`: a term, a tuple, or variables with their type."""
         if self.skip(")"):
             return ("tuple", [])
         terms = [self.term()]
@@ -228,6 +234,7 @@ class Parser:
         return terms[0] if len(terms) == 1 else ("tuple", terms)
 
     def implicit(self):
+        """After `{`: variables with their type, a type, or an argument with its name."""
         if self.token(1) is not None and self.token(1).text == "=":
             name = self.take().text
             self.need("=")
@@ -239,6 +246,7 @@ class Parser:
         return term
 
     def fields(self):
+        """The fields of a record between braces, each with its term."""
         self.need("{")
         found = []
         while not self.is_next("}"):
@@ -321,6 +329,7 @@ class File:
         self.read_blocks(blocks_of(text), ())
 
     def read_blocks(self, blocks, section):
+        """Reads blocks; those that have none of the known forms are kept in `unknown`."""
         for line, lines, comment in blocks:
             text = "\n".join(lines)
             try:
@@ -329,6 +338,7 @@ class File:
                 self.unknown.append(f"{self.path}:{line}: {fault}")
 
     def read_block(self, line, text, comment, section):
+        """Reads a block of lines, which is a `use`, a section, a fixity or a declaration."""
         words = text.split()
         if words[0] in PASSED_OVER or words[0] == "mod" or words[:2] == ["pub", "mod"]:
             return
@@ -345,6 +355,7 @@ class File:
             self.read_declaration(line, text, comment, section, words)
 
     def read_use(self, text):
+        """Reads a line `use`; the operators that it takes have their fixities here."""
         text = re.sub(r"--[^\n]*", "", text)
         match = re.fullmatch(r"(?:pub )?use\s+([^\s{]+?)(?:\.\{([^}]*)\})?(?:\s+as\s+(\S+))?\s*", text)
         if match is None:
@@ -374,6 +385,7 @@ class File:
         self.read_blocks(blocks_of(lines, line + 1), section + tuple(names))
 
     def read_declaration(self, line, text, comment, section, words):
+        """Reads a type of values or a clause of a definition, told apart by the first `:` or `=` outside of brackets."""
         if words[0] in ("data", "record"):
             self.read_type(words[0], line, text, comment, section)
             return
@@ -403,6 +415,7 @@ class File:
         self.declarations[declaration.name] = declaration
 
     def read_clause(self, tokens, at, line, text, section):
+        """Reads a clause, whose `=` is at this place among its tokens."""
         left = Parser(tokens[:at], self.fixities).whole()
         function, patterns = left, []
         while function[0] == "apply":

@@ -101,6 +101,7 @@ def single(value):
 
 
 def cons(value, some):
+    """The list with an item in front: in the same store, if that has room or already this item."""
     store, low, high = some
     if low == high:
         return single(value)
@@ -140,6 +141,7 @@ def grown_before(first, more):
 
 
 def append(first, more):
+    """`first ++ more`, in the store of one of them, if that has room; the shorter one is copied."""
     if first[1] == first[2]:
         return more
     if more[1] == more[2]:

@@ -86,6 +86,7 @@ class ArgumentParser(Parser):
 
 
 def argument_of(text, fixities):
+    """An argument of `show` as a term."""
     pieces = re.split(r'("(?:\\.|[^"\\])*")', text)
     pieces[::2] = [re.sub(r"\[(?!\])", " [ ", re.sub(r"(?<!\[)\]", " ] ", piece)) for piece in pieces[::2]]
     try:
@@ -99,6 +100,7 @@ class Question:
     the types that the file names."""
 
     def resolve(self, name):
+        """The meaning of a name in a question."""
         found = self.project.meanings(self.file, name)
         if not found:
             found = {one for one in self.project.member("Rattle.std.specs.Prelude", name) if one.kind not in ("unknown", "type")}

@@ -161,6 +161,7 @@ class Statement:
             self.add(root)
 
     def add(self, meaning):
+        """Adds a meaning, after all that it uses."""
         if meaning in self.seen:
             return
         self.seen.add(meaning)

@@ -159,6 +159,7 @@ class DefinitionWriter:
         return tests, scope, bound
 
     def match(self, value, pattern, tests, bound, scope):
+        """Adds what a pattern asks of a value, and the variables that it sets."""
         head, parts = flattened(pattern)
         meaning = self.constructor(head)
         if meaning is not None:
@@ -176,6 +177,7 @@ class DefinitionWriter:
             raise self.fault("a pattern has a form that isn't known")
 
     def match_constructor(self, value, meaning, parts, tests, bound, scope):
+        """Adds what the pattern of a constructor asks of a value and of its parts."""
         if len(parts) != meaning.count:
             raise self.fault(f"`{meaning.name}` has {meaning.count} arguments, and here {len(parts)}")
         if meaning.kind == "builtin":
@@ -287,6 +289,7 @@ class DefinitionWriter:
         return f"{value}[{term[2]}]" if term[2].isdigit() else f"{value}.{python_name(term[2])}"
 
     def value_of_lambda(self, term, scope):
+        """A λ as a function of the variables that it uses and of its own arguments."""
         patterns = []
         for pattern in term[1]:
             pattern = pattern[1] if pattern[0] == "binder" else pattern
@@ -322,6 +325,7 @@ class DefinitionWriter:
         return self.project.resolve(self.file, name)
 
     def applied(self, head, arguments, scope):
+        """The Python expression of a function with arguments."""
         if head[0] == "name" and head[1] in scope:
             return scope[head[1]] + self.further(arguments, scope)
         if head == ("name", "_"):
@@ -345,6 +349,7 @@ class DefinitionWriter:
         return library.BUILT_IN[meaning.name]
 
     def call_of_constructor(self, meaning, arguments, scope):
+        """A value of a constructor; a function, if it lacks arguments."""
         given = [self.value(argument, scope) for argument in arguments]
         if len(given) > meaning.count:
             raise self.fault(f"`{meaning.name}` has {meaning.count} arguments, and here {len(given)}")
@@ -356,6 +361,7 @@ class DefinitionWriter:
         return f"Value({meaning.name!r}, ({''.join(one + ', ' for one in given)}))"
 
     def call_of_library(self, meaning, arguments, scope):
+        """A call of what library.py has; a function, if it lacks arguments."""
         count, python = library.TABLE[str(meaning)]
         if meaning.name == "codes" and arguments and arguments[0][0] == "text":
             return self.program.shared("text", f"library_{python_name(str(meaning))}({self.literal(arguments[0][1])})")
@@ -378,6 +384,7 @@ class DefinitionWriter:
         return f'"{inner}"'
 
     def call_of_definition(self, meaning, arguments, scope):
+        """A call of a definition; a function, if it lacks arguments. Relations are types, and no values."""
         declaration = self.project.declaration(meaning)
         if is_relation(declaration):
             return "None"
@@ -440,6 +447,7 @@ class FactWriter(DefinitionWriter):
             self.is_fact = before
 
     def fact_by(self, meaning, parts, scope):
+        """A fact by what its head means."""
         if meaning.kind in ("type", "builtin") and meaning.name in library.FACTS and meaning.path.startswith("library"):
             kinds, text = library.FACTS[meaning.name]
             if len(parts) >= len(kinds):

@@ -61,7 +61,8 @@ FIVE, NONE, OK, ERR = library.some(5), library.NONE, runtime.Value("Ok", (5,)), 
 ONES = (
     ("zero", (), 0), ("true", (), True), ("false", (), False), ("[]", (), []), ("w8", (), 8), ("w16", (), 16), ("w32", (), 32), ("pos", (0,), 0),
     ("◌+◌", (0, 0), 0), ("◌*◌", (0, 5), 0), ("◌+ℤ◌", (-5, 2), -3), ("◌-ℤ◌", (2, 5), -3), ("◌*ℤ◌", (-2, 3), -6), ("◌==◌", (2, 2), True),
-    ("nat_eq", (2, 3), False), ("int_eq", (-2, -2), True), ("beq", (False, False), True), ("not", (False,), True), ("◌&&◌", (True, False), False), ("◌||◌", (False, True), True),
+    ("nat_eq", (2, 3), False), ("int_eq", (-2, -2), True), ("beq", (False, False), True), ("not", (False,), True), ("◌&&◌", (True, False), False),
+    ("◌||◌", (False, True), True),
     ("cond", (True, 1, 2), 1), ("if◌then◌else◌", (False, 1, 2), 2), ("nat_cmp", (2, 3), "Less"), ("nat_cmp", (3, 3), "Equal"), ("nat_cmp", (4, 3), "Greater"),
     ("ordering_then", (library.EQUAL, library.LESS), "Less"), ("ordering_then", (library.GREATER, library.LESS), "Greater"), ("unwrap_or", (FIVE, 1), 5),
     ("unwrap_or", (NONE, 1), 1), ("option_or", (NONE, FIVE), "Some 5"), ("option_or", (FIVE, NONE), "Some 5"), ("option_to_list", (NONE,), []),
@@ -174,11 +175,14 @@ def check_strictness():
 ANSWERS = (
     (("show", "instruction_of", "0o012701"), 0, "(Double Mov Word { mode = Autoincrement; register = Pc } { mode = Register; register = R1 })\n"),
     (("show", "attributes_text", "0o144"), 0, 'codes "RW,I,GBL,REL,OVR"\n'), (("list", "offset_after"), 0, "1 definition\n"),
+    (("statement", "--counts", "has_bits"), 0, "has_bits: 1 definitions in 1 files"), (("statement", "has_bits"), 0, "==== crates/m11_obj/specs/Gsd.antt"),
+    (("show", "IsHeld", "(Branch Br 127)"), 0, "true\n"), (("show", "IsHeld", "(Branch Br 128)"), 0, "false\n"),
+    (("show", "AsmRuns", *"12345"), 2, "has a quantifier"),
     (("show", "register_number", "Pc"), 0, "7\n"), (("show", "nowhere"), 2, "run: no definition has the name `nowhere`"),
     (("show", "Machine"), 2, "run: "), (("show", "IsTape", "1"), 2, "run: `IsTape` is a data type"),
     (("show", "offset_after", "0o40"), 2, "has 2 arguments, and here 1"),
     (("show", "offset_after", "0o40", "1 ∷"), 2, "the text ends too early"), (("show", "offset_after", "0o40", "true"), 2, "aren't of the types"),
-    (("show", "offset_after", "0o40", "[1"), 2, "was expected"), (("sim", "nowhere.TAP"), 2, "run: nowhere.TAP: No such file"),
+    (("show", "offset_after", "0o40", "[1"), 2, "was expected"), (("sim", "nowhere.TAP"), 3, "?M11 OPEN nowhere.TAP\n"),
     (("asm", "P.MAC"), 2, "these words aren't read here"), (("sort",), 2, "these words aren't known"),
 )
 
