@@ -80,6 +80,10 @@ def ok(**fields):
 
 # ---- asm
 
+# Reading is defined byte by byte, each with all lines before it.
+MOST_SOURCE = 200000
+
+
 def live_lines(definitions, mapping, counting, reading):
     """`PassLines`, `Ends` and `Refuses` of m11_asm_passes and m11_asm: the live lines of a reading, the fault that refuses it or None, and its end."""
     stage, lines, source, read = definitions.start(NIL), NIL, items(reading.lines), 0
@@ -119,6 +123,8 @@ def assembled(definitions, sources):
 
 def asm(definitions, options, texts):
     """The outcome of an assembly of these sources."""
+    if sum(map(len, texts)) > MOST_SOURCE:
+        raise Fault(f"sources of more than {MOST_SOURCE} bytes would take hours here")
     result, writes, _, _ = assembled(definitions, texts)
     outputs = {options[word]: written_to(output, writes) for word, output in (("-o", "Product"), ("-l", "Report")) if word in options}
     return ended(definitions, "Asm", result, written_to("Messages", writes), outputs)

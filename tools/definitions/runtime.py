@@ -368,6 +368,19 @@ class Late(BaseException):
     """A call took longer than it may."""
 
 
+def started(call):
+    """A thread that makes a call, with as large a stack as the system gives."""
+    for size in (STACK, STACK // 4, STACK // 16):
+        threading.stack_size(size - 4096)
+        thread = threading.Thread(target=call, daemon=True)
+        try:
+            thread.start()
+            return thread
+        except RuntimeError:
+            continue
+    raise MemoryError
+
+
 def with_large_stack(function, *given, seconds=None):
     """Calls a function where recursion may be deep, and returns or raises what it does. After some seconds, if they are given, it raises Late."""
     done = []
@@ -381,9 +394,7 @@ def with_large_stack(function, *given, seconds=None):
     # there are no cycles among values, and to look for some takes a fifth of the time
     gc.disable()
     sys.setrecursionlimit(10 ** 7)
-    threading.stack_size(STACK - 4096)
-    thread = threading.Thread(target=call, daemon=True)
-    thread.start()
+    thread = started(call)
     thread.join(seconds)
     if thread.is_alive():
         ctypes.pythonapi.PyThreadState_SetAsyncExc(ctypes.c_ulong(thread.ident), ctypes.py_object(Late))
