@@ -85,15 +85,20 @@ told_line() {
     echo "$2 sha256 $(sum_of_file "$1/$2") sources $3 version $(<"$top/VERSION") commit $4 kit $5"
 }
 
-# Copies the programs with these names, which `rt ci` built below a folder, into another one, without their symbols: with the kit's own tool, so
-# that the same program is the same file everywhere.
-take_built() {
-    local from=$1 to=$2 clang name crate
-    shift 2
+# Copies a program without its symbols: with the kit's own tool, which is the compiler under another name, so that the same program is the same
+# file everywhere; or with that of the system, if the kit has none.
+take_symbols() {
+    local clang
     clang=$(dirname -- "$(rt doc)")/toolchain/bin/clang || return
+    (exec -a llvm-strip "$clang" -o "$2" -- "$1") || strip -o "$2" -- "$1"
+}
+
+# Copies the programs with these names, which `rt ci` built below a folder, into another one, without their symbols.
+take_built() {
+    local from=$1 to=$2 name crate
+    shift 2
     for name; do
-        crate=$(crate_of "$name") || return
-        (exec -a llvm-strip "$clang" -o "$to/$name" -- "$from/crates/$crate/out/$crate") && chmod 755 -- "$to/$name" || return
+        crate=$(crate_of "$name") && take_symbols "$from/crates/$crate/out/$crate" "$to/$name" && chmod 755 -- "$to/$name" || return
     done
 }
 
