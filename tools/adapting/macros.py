@@ -77,7 +77,9 @@ class Libraries:
             self.add(path)
 
     def add(self, path):
-        for name, body in bodies_of(self.texts.lines(path)).items():
+        if path not in self.texts.bodies:
+            self.texts.bodies[path] = bodies_of(self.texts.lines(path))
+        for name, body in self.texts.bodies[path].items():
             self.bodies.setdefault(name, body)
 
 

@@ -48,10 +48,10 @@ def target(given, source):
     return os.path.join(given.output, os.path.basename(source))
 
 
-def adapt(sources, library_paths, folders):
-    """The lines of each source, adapted, and the reports."""
-    reports, out, begin = Reports(), [[] for _ in sources], 0
-    texts = Texts(reports)
+def adapt(sources, library_paths, folders, texts=None):
+    """The lines of each source, adapted, and the reports. `texts` reads the files, for a caller that has read some."""
+    texts = texts or Texts(Reports())
+    reports, out, begin = texts.reports, [[] for _ in sources], 0
     while begin < len(sources):
         first = Reader(texts, Libraries(texts, library_paths), folders, Reports())
         read(first, sources, begin)

@@ -16,15 +16,19 @@ UTF_8_MARK, UTF_16_MARKS = b"\xef\xbb\xbf", (b"\xff\xfe", b"\xfe\xff")
 
 class Texts:
     def __init__(self, reports):
-        self.reports, self.read = reports, {}
+        self.reports, self.read, self.bodies = reports, {}, {}
 
     def lines(self, path):
         """The lines of a file, each with its line end."""
         if path not in self.read:
-            with open(path, "rb") as file:
-                text = self.with_line_feeds(path, self.decoded(path, file.read()))
+            text = self.with_line_feeds(path, self.decoded(path, self.content(path)))
             self.read[path] = [self.with_plain_quotes(path, number, *line) for number, line in enumerate(lines_of(text), 1)]
         return [Line(text, end, path, number) for number, (text, end) in enumerate(self.read[path], 1)]
+
+    def content(self, path):
+        """The bytes of a file."""
+        with open(path, "rb") as file:
+            return file.read()
 
     def say(self, path, number, sentence):
         self.reports.note(Line("", "", path, number), sentence)
