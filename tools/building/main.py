@@ -48,7 +48,7 @@ def words(argv):
     parser.add_argument("--strict", action="store_true", help="refuse what may assemble to other words than DEC's assembler makes")
     parser.add_argument("-v", "--verbose", action="store_true", help="show each line that is adapted, as it was and as it is")
     parser.add_argument("files", metavar="FILE", nargs="+", help="a source, several with a + between them, an object, or a library of objects")
-    return parser, parser.parse_args(argv)
+    return parser, parser.parse_intermixed_args(argv)
 
 
 def say(text):
@@ -78,6 +78,8 @@ class Build:
         if status:
             return status
         self.write()
+        if not self.places() and not self.given.run:
+            say("build: nothing is wrong; an output would be named by -o, -m, -l or -s, and -r runs the program")
         return self.run_tape() if self.given.run else 0
 
     # Places
@@ -105,6 +107,8 @@ class Build:
         inputs = given.macros + given.library + [path for module in self.modules for path in module.paths] + given.files
         outputs = [path for path, _ in self.places()]
         for number, path in enumerate(outputs):
+            if not path:
+                raise Refused("the name of an output is empty", 2)
             for other in inputs:
                 if is_same(path, other):
                     raise Refused(f"the output {path} would be written over the input {other}", 2)

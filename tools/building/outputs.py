@@ -3,7 +3,9 @@
 A call first removes the files with their names, so that nothing old can be taken for its result. It then writes each output under another name
 beside its place, and renames all of them when the last one is written. A device or a pipe gets its bytes at once."""
 import os
-import stat
+import re
+
+STREAMS = re.compile("/proc/|/dev/(fd/|std)")
 
 
 class Outputs:
@@ -16,7 +18,7 @@ class Outputs:
             if is_file(path):
                 os.remove(os.path.realpath(path))
 
-    def write(self, contents, folder):
+    def write(self, contents, folder=None):
         """Writes the content of each place, in a folder that is made if it isn't there. After an error nothing is left."""
         try:
             if folder is not None and not os.path.isdir(folder):
@@ -25,21 +27,19 @@ class Outputs:
             for number, (path, content) in enumerate(contents):
                 self._write_one(path, content, number)
             for new, place in self.new:
-                os.replace(new, place)
+                rename(new, place)
         except BaseException:
             self.remove()
             raise
 
     def _write_one(self, path, content, number):
-        place = os.path.realpath(path)
-        if os.path.exists(place) and not is_file(place):
-            with open(path, "wb", buffering=0) as file:
-                write_all(file, content)
-            return
-        new = os.path.join(os.path.dirname(place), f".m11-build.{os.getpid()}.{number}.new")
-        self.new.append((new, place))
+        """Writes one output beside its place, or a device or a pipe itself."""
+        place, new = os.path.realpath(path), None
+        if is_file(path) or not os.path.exists(path):
+            new = os.path.join(os.path.dirname(place), f".m11-build.{os.getpid()}.{number}.new")
+            self.new.append((new, place))
         try:
-            with open(os.open(new, os.O_WRONLY | os.O_CREAT | os.O_EXCL, 0o666), "wb", buffering=0) as file:
+            with open(os.open(new or path, os.O_WRONLY | (os.O_CREAT | os.O_EXCL if new else 0), 0o666), "wb", buffering=0) as file:
                 write_all(file, content)
         except OSError as error:
             error.filename = path
@@ -55,6 +55,14 @@ class Outputs:
             os.rmdir(self.folder)
 
 
+def rename(new, place):
+    try:
+        os.replace(new, place)
+    except OSError as error:
+        error.filename = place
+        raise
+
+
 def write_all(file, content):
     """Writes bytes; one call may take only a part of them."""
     view = memoryview(content)
@@ -63,5 +71,5 @@ def write_all(file, content):
 
 
 def is_file(path):
-    """Whether a path leads to a plain file."""
-    return os.path.exists(path) and stat.S_ISREG(os.stat(path).st_mode)
+    """Whether a path leads to a plain file, and not by way of an open stream."""
+    return not STREAMS.match(os.path.abspath(path)) and os.path.isfile(path)
