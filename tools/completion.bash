@@ -1,4 +1,4 @@
-# Completion for bash of the commands m11, m11-dump and m11-trace: source this file, or let ./install put it where bash-completion looks.
+# Completion for bash of the commands m11, m11-build, m11-dump, m11-sav and m11-trace: source this file, or let ./install put it where bash-completion looks.
 
 # Files whose names begin with the word and have one of these ends, in large or in small letters, and folders.
 _m11_files() {
@@ -65,6 +65,29 @@ _m11_trace() {
     esac
 }
 
+_m11_build() {
+    COMPREPLY=()
+    case ${COMP_WORDS[COMP_CWORD - 1]} in
+        -o | --output) _m11_files "${COMP_WORDS[COMP_CWORD]}" TAP ;;
+        -m | --map) _m11_files "${COMP_WORDS[COMP_CWORD]}" MAP ;;
+        -s | --save) _m11_files "${COMP_WORDS[COMP_CWORD]}" SAV ;;
+        -L | --library) _m11_files "${COMP_WORDS[COMP_CWORD]}" OBJ ;;
+        -y | --macros) _m11_files "${COMP_WORDS[COMP_CWORD]}" MAC SML ;;
+        -l | --listings | -i | --include) _m11_files "${COMP_WORDS[COMP_CWORD]}" ;;
+        *) _m11_words "${COMP_WORDS[COMP_CWORD]}" '-o --output -m --map -l --listings -L --library -y --macros -i --include -s --save -r --run --strict -v --verbose -h --help' MAC OBJ ;;
+    esac
+}
+
+_m11_sav() {
+    COMPREPLY=()
+    case ${COMP_WORDS[COMP_CWORD - 1]} in
+        -o | --output) _m11_files "${COMP_WORDS[COMP_CWORD]}" SAV TAP ;;
+        *) _m11_words "${COMP_WORDS[COMP_CWORD]}" '-o --output -t --tape -w --words -h --help' TAP SAV ;;
+    esac
+}
+
 complete -F _m11 m11
+complete -F _m11_build m11-build
 complete -F _m11_dump m11-dump
+complete -F _m11_sav m11-sav
 complete -F _m11_trace m11-trace

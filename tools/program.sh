@@ -24,6 +24,6 @@ run_program() {
 # Says what runs where. The file that is asked for is the loader of programs for Linux on x86-64 with the GNU C library.
 refuse_machine() {
     printf '%s\n' "$name: this program runs on Linux on x86-64 with the GNU C library (glibc 2.34 or later), and this is $(uname -sm)," \
-        "without /lib64/ld-linux-x86-64.so.2; the scripts for old sources (tools/adapt, lines, unlib, unmac) run wherever Python 3 does" >&2
+        "without /lib64/ld-linux-x86-64.so.2; the scripts for old sources (tools/adapt, lines, sav, unlib, unmac) run wherever Python 3 does" >&2
     exit 70
 }

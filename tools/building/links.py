@@ -7,7 +7,7 @@ from libraries.words import Malformed, name_at
 from telling.objects import Objects
 
 from .inputs import LIBRARY, Refused
-from .messages import shown
+from .messages import Bodies, shown
 from .modules import Module, definition_of, run, section_of, use_of
 
 UNDEFINED = re.compile(r"UNDEFINED GLOBAL (\S+) *$")
@@ -49,7 +49,7 @@ class Link:
     def __init__(self, inputs, m11, modules, libraries, room):
         self.inputs, self.m11, self.modules, self.libraries, self.room = inputs, m11, modules, libraries, room
         self.tape, self.map = os.path.join(room, "TAPE"), os.path.join(room, "MAP")
-        self.status, self.messages, self.repeated = 0, [], {}
+        self.status, self.messages, self.repeated, self.bodies = 0, [], {}, {}
 
     def run(self):
         """Links again and again until nothing is undefined, or nothing more is found. Returns the status of the last link."""
@@ -90,7 +90,15 @@ class Link:
             line, count = use_of(module, name)
             more = f", and {count - 1} more line{'s' * (count > 2)}" if count > 1 else ""
             out.append(self.told(module, line, message + more))
+            call = self.bodies_of(module).call_of(line) if line else None
+            out += [self.told(module, call, "called here")] if call else []
         return out or [message]
+
+    def bodies_of(self, module):
+        """The bodies of a module's macros and repeats."""
+        if module not in self.bodies:
+            self.bodies[module] = Bodies(module.lines)
+        return self.bodies[module]
 
     def twice(self, name, message):
         """The definition that is another one, and the first."""

@@ -22,7 +22,7 @@ class Bodies:
 
     def __init__(self, lines):
         self.lines, self.places, self.macros, self.repeats = lines, list(walk(lines)), {}, {}
-        self.alike, self.counts = {}, {}
+        self.alike, self.counts, self.calls = {}, {}, None
         opened = []
         for place in self.places:
             op = place.statement.op if place.statement.kind == "operator" else ""
@@ -49,6 +49,17 @@ class Bodies:
         # Lines that are written alike are expanded in order.
         at = self.counts[index, text] = self.counts.get((index, text), -1) + 1
         return self.lines[alike[at % len(alike)].index] if alike else None
+
+    def call_of(self, line):
+        """The first line outside of bodies that expands a line of a body, or None."""
+        if self.calls is None:
+            ranges = [one for ones in self.macros.values() for one in ones] + list(self.repeats.values())
+            inside = set().union(*(range(begin + 1, end) for begin, end in ranges))
+            self.calls = {}
+            for index in range(len(self.lines)):
+                for place in self._reached(index) if index not in inside else []:
+                    self.calls.setdefault(id(self.lines[place.index]), self.lines[index])
+        return self.calls.get(id(line))
 
     def _reached(self, index):
         """The places of all lines that a call or the end of a repeat expands, in the order of the bodies that are reached."""
@@ -146,7 +157,7 @@ class Messages:
             return [f"{self.module.name}:1: {about}"]
         line = self.module.lines[max(number, 1) - 1]
         if letters == "E" and not text:
-            return [f"{line.file}:{line.number}: {about}"]
+            return [f"{line.file}:{line.number}: {about}", *self.opened()]
         if text in [printed(part[:WIDTH]) for part in parts_of(line.text)]:
             return [f"{line.file}:{line.number}: {self.reason(letters, line, about)}: {self.text(line)}"]
         self.bodies = self.bodies or Bodies(self.module.lines)
@@ -155,6 +166,14 @@ class Messages:
             return [f"{line.file}:{line.number}: {about}: {shown(text)}, in an expansion of {self.text(line)}"]
         return [f"{inner.file}:{inner.number}: {self.reason(letters, inner, about)}: {self.text(inner)}",
                 f"{line.file}:{line.number}: here as {shown(text)}: {self.text(line)}"]
+
+    def opened(self):
+        """The line that opened or switched what isn't closed: in the listing it stands before the line with E."""
+        row = self.flags.lines[-2] if len(self.flags.lines) > 1 else None
+        if row is None or row.statement.kind != "operator" or row.statement.op not in OPENERS and not row.statement.op.startswith(".IF"):
+            return []
+        line = self.module.lines[row.number - 1]
+        return [f"{line.file}:{line.number}: opened here: {self.text(line)}"]
 
     def reason(self, letters, line, about):
         """The flags of a line with their words."""

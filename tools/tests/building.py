@@ -17,7 +17,7 @@ import pasm
 from tests.libraries import MACROS, macro_library, object_library
 
 TOP = os.path.dirname(os.path.dirname(os.path.dirname(os.path.realpath(__file__))))
-M11 = os.environ.get("M11") or os.path.join(TOP, "m11")
+M11 = os.path.abspath(os.environ.get("M11") or os.path.join(TOP, "m11"))
 STATUSES = (0, 1, 3, 4, 6)
 # A program that prints the letter that it reads, and one that needs modules of two libraries.
 ECHO = b"S:\tMOV\t#1000,SP\n1$:\tTSTB\t@#177560\n\tBPL\t1$\n\tMOV\t@#177562,R0\n2$:\tTSTB\t@#177564\n\tBPL\t2$\n\tMOV\tR0,@#177566\n\tHALT\n\t.END\tS\n"
@@ -182,7 +182,8 @@ MESSAGES = (
     (b"\t.IIF NE 1, MOV R0\n\t.END\n", [f"P.MAC:1: A {A}: .IIF NE 1, MOV R0"]),
     (b"\t.MACRO\tM\tX,Y\n\tX\tY\n\t.ENDM\n\tM\t<.IIF NE 1, MOV>,R0\n\t.END\n",
      [f"P.MAC:4: A {A}: MOV\tR0, in an expansion of M\t<.IIF NE 1, MOV>,R0"]),
-    (b"\tNOP\n\t.IF NE 1\n", ["P.MAC:2: E no .END, or a body or a condition before it that isn't closed"]),
+    (b"\tNOP\n\t.IF NE 1\n\tNOP\n\t.IF NE 0\n\t.MACRO\tX\n", ["P.MAC:5: E no .END, or a body or a condition before it that isn't closed", "P.MAC:4: opened here: .IF NE 0"]),
+    (b"\tNOP\n\t.REPT\t5\n\tNOP\n\t.END\n", ["P.MAC:4: E no .END, or a body or a condition before it that isn't closed", "P.MAC:2: opened here: .REPT\t5"]),
     (b"", ["P.MAC:1: E no .END, or a body or a condition before it that isn't closed"]),
     (b"\t.INCLUDE\t\"INC.MAC\"\n\t.END\n", [f"INC.MAC:2: Q {Q}: CLR\tR0 R1"]),
 )
@@ -210,6 +211,8 @@ def check_link_messages(room):
         "B.MAC:2: DIFFERENT ATTRIBUTES P      IN MODULE B, FIRST IN A.MAC:2: .PSECT\tP,RW",
         "B.MAC:4: MULTIPLE DEFINITION X      IN MODULE B, FIRST IN A.MAC:3: X::\tNOP",
         "C.OBJ: MULTIPLE DEFINITION X      IN MODULE C, FIRST IN A.MAC:3"]))
+    room.put("A.MAC", "\t.MACRO\tM\n\tN\n\t.ENDM\n\t.MACRO\tN\n\tCLR\tNONE\n\t.ENDM\n\tNOP\n\tM\n\t.END\n")
+    room.expect("a global that a macro needs", room.run("A.MAC"), (1, ["A.MAC:5: UNDEFINED GLOBAL NONE: CLR\tNONE", "A.MAC:8: called here: M"]))
     room.put("A.MAC", "S::\tNOP\n\t.END\tS\n")
     room.put("C.OBJ", get(room.folder, "C.OBJ")[:-3])
     room.expect("a damaged object", room.run("-o", "T.TAP", "A.MAC", "C.OBJ"), (4, ["C.OBJ: ?M11 LINK 3 Block 2 Truncated IN BLOCK 6 AT BYTE 115"]))

@@ -10,7 +10,7 @@ import subprocess
 import tempfile
 
 TOP = os.path.dirname(os.path.dirname(os.path.dirname(os.path.realpath(__file__))))
-COPIED = ("README.md", ".gitignore", "examples", "docs", "tools", "bench/reading")
+COPIED = ("README.md", ".gitignore", "m11-build", "examples", "docs", "tools", "bench/reading")
 NOBODY = 65534
 BEGINS = ("./m11", "examples/", "tools/", "cat", "echo", "printf", "awk", "make", "mkdir", "{")
 SYNOPSIS = ("...", "< MESSAGES")
@@ -54,6 +54,11 @@ def blocks_of(page, heading):
         elif line.strip() and blocks[-1]:
             blocks.append([])
     return [block for block in blocks if block]
+
+
+def is_commands(block):
+    """Whether a block has commands. A message may begin like one, but with a path and a colon."""
+    return block[0].startswith(BEGINS) and not block[0].split()[0].endswith(":")
 
 
 def stands_in(block, text):
@@ -122,11 +127,11 @@ def check_page(page):
         for block in blocks_of(text, PAGES.get(page)):
             if block[0].endswith(SYNOPSIS):
                 continue
-            if block[0].startswith(BEGINS):
+            if is_commands(block):
                 is_left_out = any(name in line and not os.environ.get(variable) for line in block for name, variable in OTHERS.items())
             if is_left_out:
                 continue
-            if block[0].startswith(BEGINS):
+            if is_commands(block):
                 count += 1
                 status, said = copy.run(block, within)
                 printed += said

@@ -206,5 +206,17 @@ def check_trace_completion(repository):
         repository.expect(f"after {words}", (" ".join(sorted(said.stdout.split())), said.stderr), (wanted, ""))
 
 
+def check_build_completion(repository):
+    """The completions after some words of m11-build and of m11-sav."""
+    for name in ("P.MAC", "P.OBJ", "P.TAP", "P.SAV", "P.SML", "Pages/x"):
+        put(os.path.join(repository.folder, "work", name), "")
+    for call, words, wanted in (("build", ["P"], "P.MAC P.OBJ Pages"), ("build", ["-r", "-o", "P"], "P.TAP Pages"), ("build", ["-y", "P"], "P.MAC P.SML Pages"),
+                                ("build", ["-l", "P"], "Pages"), ("build", ["--s"], "--save --strict"), ("sav", ["P"], "P.SAV P.TAP Pages"), ("sav", ["-o", "P.S"], "P.SAV")):
+        said = subprocess.run(["bash", "-c", 'source "$0"; call=$1; shift; COMP_WORDS=(x "$@"); COMP_CWORD=$#; "_m11_$call"; printf "%s\n" "${COMPREPLY[@]}"',
+                               repository.at("tools/completion.bash"), call, *words], cwd=os.path.join(repository.folder, "work"),
+                              capture_output=True, text=True, check=False)
+        repository.expect(f"m11-{call} {words}", (" ".join(sorted(said.stdout.split())), said.stderr), (wanted, ""))
+
+
 CHECKS = checks(check_programs, check_calls, check_machines, check_time, check_version, check_paths, check_completion, check_dump_completion,
-                check_trace_completion, of="scripts")
+                check_trace_completion, check_build_completion, of="scripts")
