@@ -79,7 +79,7 @@ class Build:
             return status
         self.write()
         if not self.places() and not self.given.run:
-            say("build: nothing is wrong; an output would be named by -o, -m, -l or -s, and -r runs the program")
+            say("m11-build: nothing is wrong; an output would be named by -o, -m, -l or -s, and -r runs the program")
         return self.run_tape() if self.given.run else 0
 
     # Places
@@ -213,17 +213,18 @@ def main(argv, top):
     keep_streams()
     parser, given = words(argv)
     for number in (signal.SIGHUP, signal.SIGINT, signal.SIGTERM):
-        signal.signal(number, end)
+        if signal.getsignal(number) is not signal.SIG_IGN:
+            signal.signal(number, end)
     try:
         with tempfile.TemporaryDirectory(prefix="m11-build.") as room:
             return Build(given, program(top), room).run()
     except Refused as refusal:
         if refusal.status == 2:
             parser.error(refusal.sentence)
-        say(f"build: {refusal.sentence}")
+        say(f"m11-build: {refusal.sentence}")
         return refusal.status
     except OSError as error:
-        say(f"build: {error.filename or 'a file'}: {error.strerror}")
+        say(f"m11-build: {error.filename or 'a file'}: {error.strerror}")
         return 3
     except Ended as signalled:
         return SIGNALLED + signalled.args[0]

@@ -127,7 +127,12 @@ def printed(text):
 def shown(text):
     """The text of a line for a message: without blanks at its ends, and with a `?` for each control character. Its bytes are those of the source,
     as those of a path are."""
-    return os.fsdecode(NOT_PRINTED.sub("?", text.strip(" \t\f\r")).encode("latin-1"))
+    text = NOT_PRINTED.sub("?", text.strip(" \t\f\r"))
+    try:
+        return os.fsdecode(text.encode("latin-1"))
+    except UnicodeEncodeError:
+        # A sentence with a path, which is no text of a source.
+        return text
 
 
 class Messages:

@@ -111,7 +111,7 @@ def check_outputs(room):
     status, said = room.run("-r", "LOOP.MAC")
     room.expect("a run without an end", (status, said[0]), (1, "LIMIT AFTER 1000000 STEPS"))
     room.expect("without an output", room.run("my echo.MAC"),
-                (0, ["build: nothing is wrong; an output would be named by -o, -m, -l or -s, and -r runs the program"]))
+                (0, ["m11-build: nothing is wrong; an output would be named by -o, -m, -l or -s, and -r runs the program"]))
     shutil.rmtree(os.path.join(room.folder, "lists"))
     room.put("sub/LOOP.MAC", "A::\t.END\n")
     room.run("-l", "lists", "LOOP.MAC", "sub/LOOP.MAC")
@@ -135,10 +135,15 @@ def check_modules(room):
     for words, said in ((("DEFS.MAC+",), "in 'DEFS.MAC+' a name is missing"), (("TWO.OBJ+DEFS.MAC",), "TWO.OBJ+DEFS.MAC: only sources can be one module")):
         status, lines = room.run(*words)
         room.expect(f"{words}", (status, lines[-1]), (2, f"m11-build: error: {said}"))
+    name = "\u0416 \u00fc.MAC"
+    room.put(name, FLAGGED)
+    room.expect("a name with other letters", room.run(name)[1], [f"{name}:2: A {A}: MOV\tR0"])
+    room.expect("such a name in a sentence", room.run(name + "+DEFS.MAC")[1][0],
+                f"DEFS.MAC:1: the .END before this file ends the module {name}+DEFS.MAC, so nothing of the file is read")
     room.put("BOM.MAC", b"\xef\xbb\xbf; \xe2\x80\x9cq\xe2\x80\x9d\n\t.ENABL\tAMA\n\t.END\n")
     room.expect("what is adapted", room.run("-v", "BOM.MAC")[1][:4],
                 ["BOM.MAC:1: a byte order mark is left out", "BOM.MAC: adapted 1 line: .ENABL 1", "BOM.MAC:2: adapted to ;.ENABL\tAMA: .ENABL\tAMA",
-                 "build: nothing is wrong; an output would be named by -o, -m, -l or -s, and -r runs the program"])
+                 "m11-build: nothing is wrong; an output would be named by -o, -m, -l or -s, and -r runs the program"])
 
 
 def check_libraries(room):
@@ -158,7 +163,7 @@ def check_libraries(room):
     room.expect("a weak reference takes nothing", (status, said[1][:9]), (0, "R0 000000"))
     room.put("BAD.OBJ", object_library([one])[:60])
     status, said = room.run("-o", "P.TAP", "-L", "BAD.OBJ", "P.MAC")
-    room.expect("a damaged library", (status, len(said), said[0][:16], "P.TAP" in room.files()), (4, 1, "build: BAD.OBJ: ", False))
+    room.expect("a damaged library", (status, len(said), said[0][:20], "P.TAP" in room.files()), (4, 1, "m11-build: BAD.OBJ: ", False))
     room.expect("libraries alone", room.run("A.OBJ")[0], 2)
     room.put("SYSMAC.SML", macro_library({}))
     room.put("S.MAC", "\t.MCALL\tPUT\n\tPUT\tR0\n\t.END\n")
@@ -166,7 +171,7 @@ def check_libraries(room):
     for name in ("SYSMAC.SML", "TEXT.MAC"):
         room.expect(f"macros of {name}", room.run("-y", name, "S.MAC")[:1], (0,))
     room.put("BAD.SML", macro_library({0o32: 6}))
-    room.expect("a damaged library of macros", room.run("-y", "BAD.SML", "S.MAC"), (4, ["build: BAD.SML: an entry of the directory has 6 bytes, and not 8"]))
+    room.expect("a damaged library of macros", room.run("-y", "BAD.SML", "S.MAC"), (4, ["m11-build: BAD.SML: an entry of the directory has 6 bytes, and not 8"]))
     room.expect("a missing macro", room.run("S.MAC")[1][0], "S.MAC:1: no library has the macro PUT; give a file that defines it by -y")
 
 
@@ -217,7 +222,7 @@ def check_link_messages(room):
     room.put("C.OBJ", get(room.folder, "C.OBJ")[:-3])
     room.expect("a damaged object", room.run("-o", "T.TAP", "A.MAC", "C.OBJ"), (4, ["C.OBJ: ?M11 LINK 3 Block 2 Truncated IN BLOCK 6 AT BYTE 115"]))
     room.put("E.OBJ", b"\0\0")
-    room.expect("an empty object", room.run("A.MAC", "E.OBJ"), (4, ["build: E.OBJ: there is no module in this object"]))
+    room.expect("an empty object", room.run("A.MAC", "E.OBJ"), (4, ["m11-build: E.OBJ: there is no module in this object"]))
     room.put("BIG.MAC", "S::\t.BLKB\t170000\n\t.END\tS\n")
     room.expect("a program that is too large", room.run("BIG.MAC"), (6, ["BIG.MAC: ?M11 LINK 9 TooLarge"]))
 
@@ -259,7 +264,7 @@ def check_places(room):
     for words, said in ((("-o", "/dev/full"), "/dev/full: No space left on device"), (("-o", "none/P.TAP"), "none/P.TAP: No such file or directory"),
                         (("-o", "folder"), "folder: Is a directory"), (("-l", "P.MAC"), "P.MAC: File exists")):
         status, lines = room.run("-m", "P.MAP", *words, "P.MAC")
-        room.expect(f"{words}", (status, lines, room.files()), (3, [f"build: {said}"], ["P.MAC", "folder/x"]))
+        room.expect(f"{words}", (status, lines, room.files()), (3, [f"m11-build: {said}"], ["P.MAC", "folder/x"]))
     os.symlink("real.TAP", os.path.join(room.folder, "link.TAP"))
     status, _ = room.run("-o", "link.TAP", "-m", "/dev/null", "P.MAC")
     room.expect("a link", (status, os.path.islink(os.path.join(room.folder, "link.TAP")), "real.TAP" in room.files()), (0, True, True))
