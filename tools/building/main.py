@@ -129,6 +129,7 @@ class Build:
         return status
 
     def assemble_one(self, module, number):
+        """Adapts and assembles a module, and says all that is to be said of it. Returns its status."""
         told = len(self.inputs.reports.rows)
         adapt_module(self.inputs, module, self.given.macros, self.given.include)
         strict = Strict(self.inputs, module) if self.given.strict else None

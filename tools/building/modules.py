@@ -92,10 +92,6 @@ def run(*words):
         raise Refused(f"{words[0]} can't be run: {error.strerror}", 70) from None
 
 
-def is_object(module):
-    return module.kind in (OBJECT, LIBRARY)
-
-
 # Places of names in the sources of a module
 
 def use_of(module, name):

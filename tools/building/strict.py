@@ -31,7 +31,7 @@ class Strict:
     def __init__(self, inputs, module):
         self.inputs, self.module, self.lines = inputs, module, module.lines
         self.macros, self.defined, self.compared = {}, defined_names(module.lines)[0], {}
-        # How letters of texts count from a line on is said by .ENABL LC or .DSABL LC; None: nothing is said yet.
+        # Whether a line has said by .ENABL LC or .DSABL LC how letters of texts count.
         self.says_letters, self.divisions = False, None
         self.exact = any(self.is_mode(line, "LCM") for line in self.lines)
 
@@ -40,6 +40,7 @@ class Strict:
         return self.inputs.found.get((line.file, line.number), line.text)
 
     def is_mode(self, line, *modes):
+        """Whether a line switches one of these modes on or off."""
         statement = Statement(self.old(line))
         if statement.kind != "operator" or statement.op not in (".ENABL", ".DSABL"):
             return False
@@ -88,6 +89,7 @@ class Strict:
                 self.compared.setdefault(place.macros[-1], set()).add(name)
 
     def operands(self, line, statement):
+        """The text after an operator, without the comment."""
         return line.text[statement.b:max(statement.b, comment_place(line.text))]
 
     def operator(self, place, line, statement):

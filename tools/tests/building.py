@@ -1,4 +1,5 @@
-"""Checks of m11-build: its options, libraries, messages, what is left after failures, --strict, and damaged files. CHECKS lists them for tools/test.py.
+"""Checks of m11-build: its options, libraries, messages, what is left after failures, and damaged files. CHECKS lists them for tools/test.py; strict.py
+beside this file has those of --strict.
 
 The program is the one that the variable M11 names, else the script m11 at the top. It is called in a copy of m11-build, with the tools of this tree
 beside it, in a folder with a blank in its name."""
@@ -26,6 +27,7 @@ FLAGGED = b"\t.TITLE\tF\n\tMOV\tR0\n\t.END\n"
 # A line of what was adapted.
 SUMMARY = re.compile(r": adapted \d+ lines?: |: \d+ lines? from ")
 Q = "something is missing, or left over, as behind an operator that isn't known"
+E = "no .END, or a body or a condition before it that isn't closed"
 A = "a value, an argument or an attribute that isn't allowed here, or none"
 
 
@@ -171,7 +173,8 @@ def check_libraries(room):
     for name in ("SYSMAC.SML", "TEXT.MAC"):
         room.expect(f"macros of {name}", room.run("-y", name, "S.MAC")[:1], (0,))
     room.put("BAD.SML", macro_library({0o32: 6}))
-    room.expect("a damaged library of macros", room.run("-y", "BAD.SML", "S.MAC"), (4, ["m11-build: BAD.SML: an entry of the directory has 6 bytes, and not 8"]))
+    room.expect("a damaged library of macros", room.run("-y", "BAD.SML", "S.MAC"),
+                (4, ["m11-build: BAD.SML: an entry of the directory has 6 bytes, and not 8"]))
     room.expect("a missing macro", room.run("S.MAC")[1][0], "S.MAC:1: no library has the macro PUT; give a file that defines it by -y")
 
 
@@ -187,9 +190,9 @@ MESSAGES = (
     (b"\t.IIF NE 1, MOV R0\n\t.END\n", [f"P.MAC:1: A {A}: .IIF NE 1, MOV R0"]),
     (b"\t.MACRO\tM\tX,Y\n\tX\tY\n\t.ENDM\n\tM\t<.IIF NE 1, MOV>,R0\n\t.END\n",
      [f"P.MAC:4: A {A}: MOV\tR0, in an expansion of M\t<.IIF NE 1, MOV>,R0"]),
-    (b"\tNOP\n\t.IF NE 1\n\tNOP\n\t.IF NE 0\n\t.MACRO\tX\n", ["P.MAC:5: E no .END, or a body or a condition before it that isn't closed", "P.MAC:4: opened here: .IF NE 0"]),
-    (b"\tNOP\n\t.REPT\t5\n\tNOP\n\t.END\n", ["P.MAC:4: E no .END, or a body or a condition before it that isn't closed", "P.MAC:2: opened here: .REPT\t5"]),
-    (b"", ["P.MAC:1: E no .END, or a body or a condition before it that isn't closed"]),
+    (b"\tNOP\n\t.IF NE 1\n\tNOP\n\t.IF NE 0\n\t.MACRO\tX\n", [f"P.MAC:5: E {E}", "P.MAC:4: opened here: .IF NE 0"]),
+    (b"\tNOP\n\t.REPT\t5\n\tNOP\n\t.END\n", [f"P.MAC:4: E {E}", "P.MAC:2: opened here: .REPT\t5"]),
+    (b"", [f"P.MAC:1: E {E}"]),
     (b"\t.INCLUDE\t\"INC.MAC\"\n\t.END\n", [f"INC.MAC:2: Q {Q}: CLR\tR0 R1"]),
 )
 
@@ -237,8 +240,9 @@ def check_nothing_left(room):
     for name, content in sources.items():
         room.put(name, content)
     new = ["P.MAP", "P.SAV", "P.TAP"]
-    for name, status, words in (("FLAGGED.MAC", 1, ()), ("NEEDS.MAC", 1, ()), ("MANY.MAC", 1, ()), ("LOW.MAC", 1, ()), ("OBJECT.OBJ", 4, ()), ("NONE.MAC", 3, ()),
-                                ("GOOD.MAC", 3, ("-L", "NONE.OBJ")), ("GOOD.MAC", 3, ("-y", "NONE.MAC")), ("GOOD.MAC", 3, ("-m", "/dev/full"))):
+    calls = [(name, 1, ()) for name in ("FLAGGED.MAC", "NEEDS.MAC", "MANY.MAC", "LOW.MAC")] + [("OBJECT.OBJ", 4, ()), ("NONE.MAC", 3, ())]
+    calls += [("GOOD.MAC", 3, words) for words in (("-L", "NONE.OBJ"), ("-y", "NONE.MAC"), ("-m", "/dev/full"))]
+    for name, status, words in calls:
         room.expect("before it", (room.run(*OUTPUTS, "GOOD.MAC")[0], room.files()), (0, sorted([*sources, *new, "lists/GOOD.LST"])))
         with open(os.path.join(room.folder, "lists", name[:-3] + "LST"), "wb") as file:
             file.write(b"old\n")
@@ -251,8 +255,8 @@ def check_nothing_left(room):
         shutil.rmtree(os.path.join(room.folder, "lists"))
     room.run(*OUTPUTS, "GOOD.MAC")
     before = room.files()
-    for words in (("-o", "GOOD.MAC", "GOOD.MAC"), ("-o", "T", "-m", "./T", "GOOD.MAC"), ("-x", "GOOD.MAC"), ("-o", "P.TAP"), ("-o", "", "GOOD.MAC"), ("-o", "P.TAP", "P.SAV+NEEDS.MAC+"),
-                  ("-l", "lists", "-o", "lists/GOOD.LST", "GOOD.MAC"), ("-o", "P.TAP", "-y", "P.TAP", "GOOD.MAC"), ("-o", "P.TAP", "OBJECT.OBJ+GOOD.MAC")):
+    for words in (("-o", "GOOD.MAC", "GOOD.MAC"), ("-o", "T", "-m", "./T", "GOOD.MAC"), ("-x", "GOOD.MAC"), ("-o", "P.TAP"), ("-o", "", "GOOD.MAC"),
+                  ("-o", "P.TAP", "P.SAV+NEEDS.MAC+"), ("-l", "lists", "-o", "lists/GOOD.LST", "GOOD.MAC"), ("-o", "P.TAP", "-y", "P.TAP", "GOOD.MAC"), ("-o", "P.TAP", "OBJECT.OBJ+GOOD.MAC")):
         room.expect(f"{words}", (room.run(*words)[0], room.files()), (2, before))
     room.expect("a source", get(room.folder, "GOOD.MAC"), sources["GOOD.MAC"])
 
@@ -288,98 +292,6 @@ def check_signals(room):
     room.expect("what is left", os.listdir(room.temporary), [])
     for stream in (call.stdin, call.stdout, call.stderr):
         stream.close()
-
-
-# Each EMT of examples/monitor: a line, a call that has no character any more, memory of 5,000 words, and one that isn't served.
-EMTS = """S:\tMOV\t@#42,SP
-\tMOV\t#1,R1
-\tMOV\t#2,R2
-1$:\tSEC
-\tEMT\t340
-\tBCS\t.
-\tEMT\t341
-\tCMP\tR0,#12
-\tBNE\t1$
-\tEMT\t340
-\tMOV\tR0,R3\t; 32
-\tMOV\t#TEXT,R0
-\tEMT\t351
-\t.IRP\tX,<346,347,352,355,357>
-\tSEC
-\tEMT\tX
-\tBCS\t.
-\t.ENDR
-\tMOV\t#-1,R0
-\tEMT\t354
-\tMOV\tR0,R4\t; 157776
-\tMOV\t#2001,R0
-\tEMT\t354
-\tADD\t@#50,R2\t; 2002
-\tTST\tX
-\tBNE\t2$
-\tEMT\t350
-2$:\tEMT\t360
-TEXT:\t.ASCII\t/text/<200>
-\t.EVEN
-X:\t.WORD\t{0}
-\t.END\tS
-"""
-
-
-def check_monitor(room):
-    """The calls of the example of a monitor."""
-    monitor = os.path.join(TOP, "examples", "monitor", "MONITOR.MAC")
-    for number, printed in ((0, b"ab\r\ntext"), (1, b"ab\r\ntext?MON-F-EMT 000360 AT 001134\n")):
-        room.put("P.MAC", EMTS.format(number))
-        status, said = room.run("-r", "P.MAC", monitor, given=b"ab\n")
-        wanted = " R1 000001 R2 002002 R3 000032 R4 157776 " if number == 0 else ""
-        room.expect(f"EMTs, {number}", (status, room.out, wanted in said[-1]), (0, printed, True))
-
-
-# For each row that --strict sees: a source, and the message. None: it is accepted.
-STRICT = (
-    ("\tHALTT\n", "P.MAC:1: HALTT is no operator and no macro, and nothing here defines it, so it becomes a word: HALTT"),
-    ("T:\tT\nU=5\n\tU,5\n", None),
-    ("\t.SAVE\n\t.PSECT\tX\n\t.RESTORE\n\tNOP\n", None),
-    ("\t.RESTORE\n", "P.MAC:1: .RESTORE has no .SAVE before it"),
-    ("\t.ERROR\t; no\n", "P.MAC:1: A this .ERROR is reached, and DEC's assembler reports it: .ERROR\t; no"),
-    ("\t.IF EQ\t1\n\t.ERROR\t; no\n\t.ENDC\n\t.PRINT\t; yes\n", None),
-    ("\t.MACRO\tM\tX\n\t.IIF EQ X,\t.ERROR\t; no\n\t.ENDM\n\tM\t1\n\tM\t0\n",
-     "P.MAC:2: A this .ERROR is reached, and DEC's assembler reports it: .IIF EQ X,\t.ERROR\t; no"),
-    ("\tSETD\n\tMOV\t#RTI,@#30\n", None),
-    ("V=100000\n\t.WORD\tV/2\n", "P.MAC:2: a number over 77777 counts as negative in a division: .WORD\tV/2"),
-    ("\t.WORD\t10/<177776+1>\n", "P.MAC:1: a number over 77777 counts as negative in a division: .WORD\t10/<177776+1>"),
-    ("\tMOV\t#2+200000./2,R0\n", "P.MAC:1: T a number that is too large: MOV\t#2+200000./2,R0"),
-    ("V=77777\n\t.WORD\tV/2,-V/2,65534./2&77777\nW=^C1/2\n", "P.MAC:2: a number over 77777 counts as negative in a division: .WORD\tV/2,-V/2,65534./2&77777"),
-    ("V=77776\n\t.WORD\tV/2,V*1/2,<V+1>/2\n\t.ASCII\t/a\\/\n\t.ENABL\tLC\n", "P.MAC:3: small letters of a text, before .ENABL LC or .DSABL LC says how they count: .ASCII\t/a\\/"),
-    ("\t.MACRO\tM\tX\n\t.ASCII\t/X/\n\t.ENDM\n\t.REPT\t1\n\tM\t^/AB/\n\t.ENDR\n", None),
-    ("\t.MACRO\tM\tX\n\t.ASCII\t\"X\"\n\t.ENDM\n\tM\t^/A>B/\n", "P.MAC:4: ^ and two equal characters aren't brackets here: M\t^/A>B/"),
-    ("\t.MACRO\tM\tX\n\t.ASCII\t/X/\n\t.ENDM\n\tM\tB=5\n", "P.MAC:4: the actual B=5 is a text here, and a keyword in DEC's; write <B=5> if it is a text: M\tB=5"),
-    ("\t.MACRO\tM\tX,B\n\t.ASCII\t/X/\n\t.ENDM\n\tM\tB=5\n\tM\t<B=5>\n", None),
-    ("\t.IF IDN\t<a>,<A>\n\t.ENDC\n", "P.MAC:1: the texts differ only by small letters, which are different here: .IF IDN\t<a>,<A>"),
-    ("\t.IIF DIF <a>,<A>,\tNOP\n", "P.MAC:1: the texts differ only by small letters, which are different here: .IIF DIF <a>,<A>,\tNOP"),
-    ("\t.ENABL\tLCM\n\t.IF IDN\t<a>,<A>\n\t.ENDC\n", None),
-    ("\t.MACRO\tM\tX\n\t.IF IDN\t<X>,<A>\n\t.ENDC\n\t.ENDM\n\tM\ta\n", "P.MAC:5: M compares a by IDN or DIF, where small letters are different here: M\ta"),
-    ("\t.ASCII\t<cr>/A/\t; small\ncr=15\n\tMOV\t#'A,R0\n", None),
-    ("\tMOV\t#'a,R0\n", "P.MAC:1: small letters of a text, before .ENABL LC or .DSABL LC says how they count: MOV\t#'a,R0"),
-    ("\t.DSABL\tLC\n\t.ASCII\t/a/\n", None),
-    ("\t.REPT\t1\n\t.WORD\t" + "1," * 70 + "1\n\t.ENDR\n", "P.MAC:2: the line has 148 characters, and only 132 are read: .WORD\t" + "1," * 70 + "1"),
-    ("\t.REPT\t1\nL:\t.ENDR\n", "P.MAC:2: the label L isn't defined, since the line closes a body: L:\t.ENDR"),
-    ("\tMOV\tR0,(R0)+\n", "P.MAC:1: models of the PDP-11 differ in this, for which DEC's assembler has the flag Z: MOV\tR0,(R0)+"),
-    ("\tCMPB\t%2,@-(%2)\n", "P.MAC:1: models of the PDP-11 differ in this, for which DEC's assembler has the flag Z: CMPB\t%2,@-(%2)"),
-    ("\tJSR\tPC,(R1)+\n", "P.MAC:1: models of the PDP-11 differ in this, for which DEC's assembler has the flag Z: JSR\tPC,(R1)+"),
-    ("\tMOV\tR0,(R1)+\n\tMOV\t(R0),(R0)+\n\tJMP\t(R0)\n", None),
-)
-
-
-def check_strict(room):
-    """Each row of the page that --strict sees."""
-    for source, wanted in STRICT:
-        room.put("P.MAC", source + "\t.END\n")
-        status, said = room.run("--strict", "P.MAC")
-        room.expect(f"strict with {source!r}", (status, wanted in said) if wanted else (status, None), (1, True) if wanted else (0, None))
-        if (status, wanted is None) == (1, True) or (wanted and wanted not in said):
-            room.found.append("\n".join(said))
 
 
 def check_damaged(room):
@@ -423,8 +335,8 @@ def built_in_process(room, name, content):
     handlers = {number: signal.getsignal(number) for number in (signal.SIGHUP, signal.SIGINT, signal.SIGTERM)}
     try:
         with contextlib.suppress(SystemExit):
-            return main.main(["-o", os.path.join(room.folder, "T.TAP"), "-y", paths["M.SML"], "-L", paths["L.OBJ"], "--strict", paths["P.MAC"], paths["O.OBJ"]],
-                             os.path.dirname(room.script)), said
+            words = ["-o", os.path.join(room.folder, "T.TAP"), "-y", paths["M.SML"], "-L", paths["L.OBJ"], "--strict", paths["P.MAC"], paths["O.OBJ"]]
+            return main.main(words, os.path.dirname(room.script)), said
         return 2, said
     finally:
         main.say = kept
@@ -434,4 +346,4 @@ def built_in_process(room, name, content):
 
 CHECKS = [(check.__name__.replace("check_", "building-").replace("_", "-"), in_a_room(check), ())
           for check in (check_outputs, check_modules, check_libraries, check_messages, check_link_messages, check_nothing_left, check_places, check_signals,
-                        check_monitor, check_strict, check_damaged)]
+                        check_damaged)]

@@ -134,8 +134,8 @@ def check_refusals(folder):
         put(folder, "OUT", b"old")
         wrong += differ(f"{words} {content[:12]}", run(folder, *words, "-o", "OUT", "P"), (4, "", f"sav: P: {said}\n"))
     put(folder, "P.TAP", block(0o1000, b"\1\0") + block(0o1000, b""))
-    for words, status in (((), 2), (("-o", "OUT"), 2), (("-w", "-o", "OUT", "P.TAP"), 2), (("-o", "", "P.TAP"), 2), (("-o", "./P.TAP", "P.TAP"), 2), (("--help",), 0),
-                          (("-o", "OUT", "NONE"), 3), (("-o", "none/OUT", "P.TAP"), 3), (("-o", "/dev/full", "P.TAP"), 3), (("-o", ".", "P.TAP"), 3)):
+    for words, status in (((), 2), (("-o", "OUT"), 2), (("-w", "-o", "OUT", "P.TAP"), 2), (("-o", "", "P.TAP"), 2), (("-o", "./P.TAP", "P.TAP"), 2),
+                          (("--help",), 0), (("-o", "OUT", "NONE"), 3), (("-o", "none/OUT", "P.TAP"), 3), (("-o", "/dev/full", "P.TAP"), 3), (("-o", ".", "P.TAP"), 3)):
         wrong += differ(f"{words}", run(folder, *words)[0], status)
     return wrong + differ("files", sorted(os.listdir(folder)), ["P", "P.TAP"])
 

@@ -1,0 +1,99 @@
+"""Checks of what m11-build --strict refuses, and of the example of a monitor, which it builds. CHECKS lists them for tools/test.py."""
+import os
+
+from tests.building import TOP, in_a_room
+
+# Each EMT of examples/monitor: a line, a call that has no character any more, memory of 5,000 words, and one that isn't served.
+EMTS = """S:\tMOV\t@#42,SP
+\tMOV\t#1,R1
+\tMOV\t#2,R2
+1$:\tSEC
+\tEMT\t340
+\tBCS\t.
+\tEMT\t341
+\tCMP\tR0,#12
+\tBNE\t1$
+\tEMT\t340
+\tMOV\tR0,R3\t; 32
+\tMOV\t#TEXT,R0
+\tEMT\t351
+\t.IRP\tX,<346,347,352,355,357>
+\tSEC
+\tEMT\tX
+\tBCS\t.
+\t.ENDR
+\tMOV\t#-1,R0
+\tEMT\t354
+\tMOV\tR0,R4\t; 157776
+\tMOV\t#2001,R0
+\tEMT\t354
+\tADD\t@#50,R2\t; 2002
+\tTST\tX
+\tBNE\t2$
+\tEMT\t350
+2$:\tEMT\t360
+TEXT:\t.ASCII\t/text/<200>
+\t.EVEN
+X:\t.WORD\t{0}
+\t.END\tS
+"""
+
+
+def check_monitor(room):
+    """The calls of the example of a monitor."""
+    monitor = os.path.join(TOP, "examples", "monitor", "MONITOR.MAC")
+    for number, printed in ((0, b"ab\r\ntext"), (1, b"ab\r\ntext?MON-F-EMT 000360 AT 001134\n")):
+        room.put("P.MAC", EMTS.format(number))
+        status, said = room.run("-r", "P.MAC", monitor, given=b"ab\n")
+        wanted = " R1 000001 R2 002002 R3 000032 R4 157776 " if number == 0 else ""
+        room.expect(f"EMTs, {number}", (status, room.out, wanted in said[-1]), (0, printed, True))
+
+
+# For each row that --strict sees: a source, and the message. None: it is accepted.
+STRICT = (
+    ("\tHALTT\n", "P.MAC:1: HALTT is no operator and no macro, and nothing here defines it, so it becomes a word: HALTT"),
+    ("T:\tT\nU=5\n\tU,5\n", None),
+    ("\t.SAVE\n\t.PSECT\tX\n\t.RESTORE\n\tNOP\n", None),
+    ("\t.RESTORE\n", "P.MAC:1: .RESTORE has no .SAVE before it"),
+    ("\t.ERROR\t; no\n", "P.MAC:1: A this .ERROR is reached, and DEC's assembler reports it: .ERROR\t; no"),
+    ("\t.IF EQ\t1\n\t.ERROR\t; no\n\t.ENDC\n\t.PRINT\t; yes\n", None),
+    ("\t.MACRO\tM\tX\n\t.IIF EQ X,\t.ERROR\t; no\n\t.ENDM\n\tM\t1\n\tM\t0\n",
+     "P.MAC:2: A this .ERROR is reached, and DEC's assembler reports it: .IIF EQ X,\t.ERROR\t; no"),
+    ("\tSETD\n\tMOV\t#RTI,@#30\n", None),
+    ("V=100000\n\t.WORD\tV/2\n", "P.MAC:2: a number over 77777 counts as negative in a division: .WORD\tV/2"),
+    ("\t.WORD\t10/<177776+1>\n", "P.MAC:1: a number over 77777 counts as negative in a division: .WORD\t10/<177776+1>"),
+    ("\tMOV\t#2+200000./2,R0\n", "P.MAC:1: T a number that is too large: MOV\t#2+200000./2,R0"),
+    ("V=77777\n\t.WORD\tV/2,-V/2\nW=^C1/2\n", "P.MAC:2: a number over 77777 counts as negative in a division: .WORD\tV/2,-V/2"),
+    ("V=77777\nW=^C1/2\n", "P.MAC:2: a number over 77777 counts as negative in a division: W=^C1/2"),
+    ("V=77776\n\t.WORD\tV/2,V*1/2,<V+1>/2,32767./2\n", None),
+    ("\t.ASCII\t/a/\n\t.ENABL\tLC\n", "P.MAC:1: small letters of a text, before .ENABL LC or .DSABL LC says how they count: .ASCII\t/a/"),
+    ("\t.MACRO\tM\tX\n\t.ASCII\t/X/\n\t.ENDM\n\t.REPT\t1\n\tM\t^/AB/\n\t.ENDR\n", None),
+    ("\t.MACRO\tM\tX\n\t.ASCII\t\"X\"\n\t.ENDM\n\tM\t^/A>B/\n", "P.MAC:4: ^ and two equal characters aren't brackets here: M\t^/A>B/"),
+    ("\t.MACRO\tM\tX\n\t.ASCII\t/X/\n\t.ENDM\n\tM\tB=5\n", "P.MAC:4: the actual B=5 is a text here, and a keyword in DEC's; write <B=5> if it is a text: M\tB=5"),
+    ("\t.MACRO\tM\tX,B\n\t.ASCII\t/X/\n\t.ENDM\n\tM\tB=5\n\tM\t<B=5>\n", None),
+    ("\t.IF IDN\t<a>,<A>\n\t.ENDC\n", "P.MAC:1: the texts differ only by small letters, which are different here: .IF IDN\t<a>,<A>"),
+    ("\t.IIF DIF <a>,<A>,\tNOP\n", "P.MAC:1: the texts differ only by small letters, which are different here: .IIF DIF <a>,<A>,\tNOP"),
+    ("\t.ENABL\tLCM\n\t.IF IDN\t<a>,<A>\n\t.ENDC\n", None),
+    ("\t.MACRO\tM\tX\n\t.IF IDN\t<X>,<A>\n\t.ENDC\n\t.ENDM\n\tM\ta\n", "P.MAC:5: M compares a by IDN or DIF, where small letters are different here: M\ta"),
+    ("\t.ASCII\t<cr>/A/\t; small\ncr=15\n\tMOV\t#'A,R0\n", None),
+    ("\tMOV\t#'a,R0\n", "P.MAC:1: small letters of a text, before .ENABL LC or .DSABL LC says how they count: MOV\t#'a,R0"),
+    ("\t.DSABL\tLC\n\t.ASCII\t/a/\n", None),
+    ("\t.REPT\t1\n\t.WORD\t" + "1," * 70 + "1\n\t.ENDR\n", "P.MAC:2: the line has 148 characters, and only 132 are read: .WORD\t" + "1," * 70 + "1"),
+    ("\t.REPT\t1\nL:\t.ENDR\n", "P.MAC:2: the label L isn't defined, since the line closes a body: L:\t.ENDR"),
+    ("\tMOV\tR0,(R0)+\n", "P.MAC:1: models of the PDP-11 differ in this, for which DEC's assembler has the flag Z: MOV\tR0,(R0)+"),
+    ("\tCMPB\t%2,@-(%2)\n", "P.MAC:1: models of the PDP-11 differ in this, for which DEC's assembler has the flag Z: CMPB\t%2,@-(%2)"),
+    ("\tJSR\tPC,(R1)+\n", "P.MAC:1: models of the PDP-11 differ in this, for which DEC's assembler has the flag Z: JSR\tPC,(R1)+"),
+    ("\tMOV\tR0,(R1)+\n\tMOV\t(R0),(R0)+\n\tJMP\t(R0)\n", None),
+)
+
+
+def check_strict(room):
+    """Each row of the page that --strict sees."""
+    for source, wanted in STRICT:
+        room.put("P.MAC", source + "\t.END\n")
+        status, said = room.run("--strict", "P.MAC")
+        is_right = status == 1 and wanted in said if wanted else status == 0
+        room.expect(f"strict with {source!r}", "right" if is_right else f"{status}: " + "\n".join(said), "right")
+
+
+CHECKS = [(check.__name__.replace("check_", "building-"), in_a_room(check), ()) for check in (check_strict, check_monitor)]
