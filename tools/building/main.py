@@ -133,12 +133,12 @@ class Build:
         told = len(self.inputs.reports.rows)
         adapt_module(self.inputs, module, self.given.macros, self.given.include)
         strict = Strict(self.inputs, module) if self.given.strict else None
-        if strict:
-            strict.replace_errors()
+        replaced = strict.replace_errors() if strict else ()
         status = assemble(self.m11, module, self.room, number)
         rows = list(self.inputs.reports.rows.items())[told:]
-        for (file, line, sentence), _ in rows:
-            say(f"{file}:{line}: {shown(sentence.replace(' by -l', ' by -y'))}")
+        for (file, line, sentence), is_left in rows:
+            if is_left or (file, line) not in replaced:
+                say(f"{file}:{line}: {shown(sentence.replace(' by -l', ' by -y'))}")
         for line in summary(self.inputs, module, self.given.verbose):
             say(line)
         refusals = strict.refusals() if strict and status in WRITTEN else []

@@ -48,13 +48,16 @@ class Strict:
         return bool({six(word) for word in NAME.findall(text[statement.b:comment_place(text)])} & set(modes))
 
     def replace_errors(self):
-        """Puts a line that m11 flags in the place of each .ERROR that adapt has left out."""
+        """Puts a line that m11 flags in the place of each .ERROR that adapt has left out, and returns the files and numbers of these lines."""
+        replaced = set()
         for line in self.lines:
             old = self.old(line)
             statement = inner_statement(line.with_text(old), Statement(old))
             if statement.kind == "operator" and statement.op == ".ERROR" and line.text != old and ";" in line.text:
                 line.text = old[:statement.a] + ERROR_LINE
                 self.module.reasons[id(line)] = "this .ERROR is reached, and DEC's assembler reports it"
+                replaced.add((line.file, line.number))
+        return replaced
 
     def refusals(self):
         """A sentence for each refused line, with its file and its text."""
