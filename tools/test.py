@@ -1,5 +1,5 @@
 #!/usr/bin/env python3
-"""Runs the tests of tools/adapt, tools/lines, tools/unmac, tools/unlib, tools/release, tools/mistakes and tools/names, and of the scripts at
+"""Runs the tests of m11-build, of the scripts of tools (adapt, lines, unmac, unlib, sav, release, mistakes and names), and of the others at
 the top: python3 tools/test.py [--part K/N] [NAME]...
 
 A NAME selects all tests whose names begin with it, such as page-, and --part the K-th, the K+N-th and so on of them. A test whose command the machine
