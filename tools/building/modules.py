@@ -85,11 +85,17 @@ def assemble(m11, module, room, number):
 
 
 def run(*words):
-    """A command, with what it prints on standard error."""
+    """A command, with what it prints on standard error. One that a signal ends has no status, and ends the call."""
     try:
-        return subprocess.run(words, stdin=subprocess.DEVNULL, stdout=subprocess.PIPE, stderr=subprocess.PIPE, check=False)
+        done = subprocess.run(words, stdin=subprocess.DEVNULL, stdout=subprocess.PIPE, stderr=subprocess.PIPE, check=False)
     except OSError as error:
         raise Refused(f"{words[0]} can't be run: {error.strerror}", 70) from None
+    if done.returncode < 0:
+        raise Refused(f"m11 {words[1]} was ended by signal {-done.returncode}", 70)
+    if done.returncode == 2:
+        # The folder of temporary files may have a name that isn't UTF-8.
+        raise Refused(f"m11 {words[1]} refuses its words: {os.fsdecode(done.stderr).strip()}", 70)
+    return done
 
 
 # Places of names in the sources of a module

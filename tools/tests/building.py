@@ -7,6 +7,7 @@ import contextlib
 import os
 import random
 import re
+import resource
 import shutil
 import signal
 import subprocess
@@ -142,6 +143,10 @@ def check_modules(room):
     room.expect("a name with other letters", room.run(name)[1], [f"{name}:2: A {A}: MOV\tR0"])
     room.expect("such a name in a sentence", room.run(name + "+DEFS.MAC")[1][0],
                 f"DEFS.MAC:1: the .END before this file ends the module {name}+DEFS.MAC, so nothing of the file is read")
+    room.put("inc/D.MAC", "N=5\n")
+    room.put("I.MAC", "\t.INCLUDE\t/D.MAC/\nS:\tMOV\t#N,R0\n\tHALT\n\t.END\tS\n")
+    room.expect("without a folder of files", room.run("I.MAC")[1][:1], ["I.MAC:1: the file D.MAC isn't there; name its folder by -i"])
+    room.expect("with a folder of files", room.run("-i", "inc", "I.MAC")[0], 0)
     room.put("BOM.MAC", b"\xef\xbb\xbf; \xe2\x80\x9cq\xe2\x80\x9d\n\t.ENABL\tAMA\n\t.END\n")
     room.expect("what is adapted", room.run("-v", "BOM.MAC")[1][:4],
                 ["BOM.MAC:1: a byte order mark is left out", "BOM.MAC: adapted 1 line: .ENABL 1", "BOM.MAC:2: adapted to ;.ENABL\tAMA: .ENABL\tAMA",
@@ -274,6 +279,12 @@ def check_places(room):
     room.expect("a link", (status, os.path.islink(os.path.join(room.folder, "link.TAP")), "real.TAP" in room.files()), (0, True, True))
     room.expect("a device", (room.run("-o", "/dev/stdout", "P.MAC")[0], room.out), (0, get(room.folder, "real.TAP")))
     room.expect("a console that is full", room.run("P.MAC", stderr=open("/dev/full", "wb"))[0], 0)
+    def limited():
+        resource.setrlimit(resource.RLIMIT_FSIZE, (100, 100))
+
+    room.put("P.TAP", b"old")
+    status, said = room.run("-o", "P.TAP", "P.MAC", preexec_fn=limited)
+    room.expect("without room for temporary files", (status, len(said), "P.TAP" in room.files()), (70, 1, False))
     room.put("FIRST.MAC", FLAGGED)
     room.expect("without standard streams", room.run("-o", "T.TAP", "FIRST.MAC", preexec_fn=lambda: os.closerange(0, 3))[0], 1)
     room.expect("nothing is written", "T.TAP" in room.files(), False)
