@@ -33,6 +33,8 @@ class Strict:
         self.macros, self.defined, self.compared = {}, defined_names(module.lines)[0], {}
         # Whether a line has said by .ENABL LC or .DSABL LC how letters of texts count.
         self.says_letters, self.divisions = False, None
+        # Whether a macro defines macros under names that its calls give.
+        self.makes_macros = False
         self.exact = any(self.is_mode(line, "LCM") for line in self.lines)
 
     def old(self, line):
@@ -86,6 +88,7 @@ class Strict:
         statement, text = place.statement, self.lines[place.index].text
         found = NAME.search(text, statement.b) if statement.op == ".MACRO" else None
         if found:
+            self.makes_macros |= six(found.group()) in place.formals or "'" in (text[found.start() - 1], text[found.end():found.end() + 1])
             self.macros[six(found.group())] = [formal.name for formal in formals_of(text, found.end())[0]]
         for one in self.compared_texts(text, inner_or_own(self.lines[place.index], statement)):
             for name in {six(word) for word in NAME.findall(one)} & place.formals if place.macros else ():
@@ -100,7 +103,7 @@ class Strict:
         op, text = statement.op, line.text
         if statement.kind != "operator" or op == "." or op in DIRECTIVES or op in INSTRUCTIONS or op in self.macros:
             return None
-        if op in self.defined or op in place.formals or "'" in (text[statement.a - 1:statement.a], text[statement.b:statement.b + 1]):
+        if self.makes_macros or op in self.defined or op in place.formals or "'" in (text[statement.a - 1:statement.a], text[statement.b:statement.b + 1]):
             return None
         return f"{op} is no operator and no macro, and nothing here defines it, so it becomes a word"
 
@@ -123,7 +126,7 @@ class Strict:
         """A keyword of a call, which is a text here."""
         for word in self.words(line, statement):
             if KEYWORD.match(word):
-                return f"the actual {word} is a text here, and a keyword in DEC's; write <{word}> if it is a text"
+                return f"the actual {shown(word)} is a text here, and a keyword in DEC's; write <{shown(word)}> if it is a text"
         return None
 
     def words(self, line, statement):

@@ -53,6 +53,8 @@ def check_monitor(room):
 STRICT = (
     ("\tHALTT\n", "P.MAC:1: HALTT is no operator and no macro, and nothing here defines it, so it becomes a word: HALTT"),
     ("T:\tT\nU=5\n\tU,5\n", None),
+    ("\t.MACRO\tDEF\tN\n\t.MACRO\tN\n\tNOP\n\t.ENDM\n\t.ENDM\n\tDEF\tONE\n\tONE\n", None),
+    ("\t.MACRO\tDEF\tN\n\t.MACRO\tX'N\n\tNOP\n\t.ENDM\n\t.ENDM\n\tDEF\tONE\n\tXONE\n", None),
     ("\t.SAVE\n\t.PSECT\tX\n\t.RESTORE\n\tNOP\n", None),
     ("\t.RESTORE\n", "P.MAC:1: .RESTORE has no .SAVE before it"),
     ("\t.ERROR\t; no\n", "P.MAC:1: A this .ERROR is reached, and DEC's assembler reports it: .ERROR\t; no"),
