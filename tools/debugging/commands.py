@@ -5,29 +5,28 @@ from . import calls, showing
 from .runs import NEVER, Refused
 from .values import count_of, register_of
 
-HELP = """PLACE is a name or an octal number, with + or -, or a register; @ before it: the word
-there. N is a decimal number. A letter before a command is enough, or a beginning.
-b break PLACE [N] [if R2=5]  stop at PLACE, the Nth time, or if a register or a
-                             word is = # < > <= >= a value; break alone lists
-d delete PLACE|NUMBER|all    remove breaks
-g go, c continue             to the next break, or to the end
-s step [N]   o over   u out  steps; a step over a call; out of a call
-k back [N]                   steps back; back over and back out: by a call,
-                             back break: to the last break,
-                             back PLACE: to the last change of a word
-t to N                       to the state after N steps; run: from the start to
-                             the first break
-w watch PLACE                to the next change of a word
-e examine [-b|-a|-m|-l] A[:B|/N]  words, bytes, text, instructions, lines of
-                             listings, from A to B or N of them (octal)
-r registers   . where        registers and codes; the next instruction
-l last [N]    calls          the last steps; the calls that are open
-i input "TEXT\\r"<15>         what the console reads next; input end: no more;
-                             input forget: from the start, without input
-output [N]   evaluate PLACE  what the console printed; a value
-save FILE    source FILE     write the commands so far; make those of a file
-h help       q quit
-Each state is that of m11-trace. Nothing can be changed: there is no deposit."""
+HELP = """PLACE is a name, an octal number or a register, with + and -; @PLACE is the word
+there, and (R5) an address. N is decimal. The beginning of a command is enough.
+b break PLACE [N]          stop at PLACE: always, or only the Nth time
+b break PLACE if R2=5      stop if a register or a word is = # < > <= >= a value
+d delete NUMBER|PLACE|all  remove breaks; break alone lists them
+g go, c continue           to the next break, or to the end; run: from the start
+s step [N]  o over  u out  N steps; a step or a whole call; out of the call
+k back [N]                 back N steps; back over, back out: to before the call
+k back break               to the last break
+k back PLACE, back R4      to before the last change of a word, of a register
+t to N                     to where N steps were made
+w watch PLACE, watch R4    to after the next change of it
+e examine A[:B] or A/N     words from A to B, or N of them (octal); -b: bytes,
+                           -a: text, -m: instructions, -l: lines of listings
+r registers  . where       registers, condition codes; the next instruction
+l last [N]  calls          the last N steps; the calls that are open
+i input "TEXT\\r"<15>       what the console reads next; input end: no more,
+                           input forget: to the start, without what was typed
+output [N]  = PLACE        what the console has printed; a value
+save FILE  source FILE     write the commands so far; make those of a file
+h help  q quit             ;P  A;B  A/ of ODT: go, break A, examine A
+Each state is that of m11-trace, so nothing can be changed."""
 
 LETTERS = {"b": "break", "d": "delete", "g": "go", "c": "continue", "s": "step", "o": "over", "u": "out", "k": "back", "t": "to", "w": "watch",
            "e": "examine", "r": "registers", "l": "last", "i": "input", "h": "help", "?": "help", "q": "quit", ".": "where", "n": "step", "=": "evaluate"}
@@ -75,7 +74,7 @@ class Commands:
             return OTHERS.get(name, name)
         if word in NOT_HERE:
             raise Refused(f"{word}: {NOT_HERE[word]}")
-        found = [name for name in self.names if name.startswith(word)]
+        found = [name for name in self.calls if name.startswith(word)] or [name for name in OTHERS if name.startswith(word)]
         meant = {OTHERS.get(name, name) for name in found}
         if len(meant) != 1:
             raise Refused(f"{word}: {' or '.join(found) + ' begin so' if found else 'no command begins so; help lists them'}")
@@ -178,7 +177,7 @@ class Commands:
             raise Refused(f"no memory is at {first:06o}")
         if last is not None and last < first:
             raise Refused(f"{last:06o} is before {first:06o}")
-        show = {"o": self.show_words, "b": self.show_bytes, "a": self.show_text, "m": self.show_instructions, "l": self.show_instructions}[switch]
+        show = {"o": self.show_words, "b": self.show_bytes, "a": self.show_text, "m": self.show_instructions, "l": self.show_sources}[switch]
         show(first, end if last is None else min(last, end), count, last is not None)
 
     def show_words(self, first, last, count, is_range):
@@ -209,9 +208,20 @@ class Commands:
         words = self.session.words(first, min(last, first + (0 if is_range else 6 * most)) if not is_range else last)
         names = self.session.names
         for address, text in self.session.time.runs.instructions(first, words)[:most]:
-            line = f"{showing.place(address, names):21} {showing.named(text, names):24}"
-            source = names.source(address)
-            self.out((line + (f" ; {source}" if source else "")).rstrip())
+            self.out(f"{showing.place(address, names):21} {showing.named(text, names)}")
+
+    def show_sources(self, first, last, count, is_range):
+        """Lines of listings, each with its words in memory, which end where the next line begins."""
+        names, shown = self.session.names, 0
+        addresses = [at for at in range(first, last + 1, 2) if names.source(at)]
+        if not addresses or addresses[0] != first:
+            raise Refused(f"no listing has a line for {first:06o}: examine shows words, examine -m instructions")
+        for at, after in zip(addresses, [*addresses[1:], addresses[-1] + 6]):
+            if shown >= (len(addresses) if is_range else count or 1):
+                break
+            words = " ".join(f"{word:06o}" for word in self.session.words(at, min(after, at + 6) - 2))
+            self.out(f"{showing.place(at, names):21} {words:21} {names.source(at)}")
+            shown += 1
 
     def do_evaluate(self, rest):
         value = self.session.values.of(rest, self.session.now)

@@ -165,9 +165,16 @@ def debug(given, top):
         commands.session.time.close()
 
 
+def show_version(top):
+    """The version of the program that the states come from, since this script has none of its own."""
+    done = subprocess.run([os.path.join(top, "tools", "version"), "m11-trace"], stdout=subprocess.PIPE, check=False)
+    print("m11-debug, over " + done.stdout.decode(), end="")
+    return done.returncode
+
+
 def main(argv, top):
     if argv == ["--version"]:
-        os.execv(os.path.join(top, "tools", "version"), ["version", "m11-debug"])
+        return show_version(top)
     for stream in (sys.stdin, sys.stdout, sys.stderr):
         if stream is not None:
             stream.reconfigure(encoding="utf-8", errors="surrogateescape")
@@ -177,7 +184,10 @@ def main(argv, top):
     except Refused as refusal:
         print(f"m11-debug: {refusal}" if not str(refusal).startswith("?M11") else refusal, file=sys.stderr)
         return refusal.status
-    except BrokenPipeError:
+    except OSError as error:
+        # Standard output: whatever else is read or written has its own sentence. Python writes what is left when it ends, and shall not fail again.
+        if not isinstance(error, BrokenPipeError):
+            print(f"m11-debug: standard output: {error.strerror}", file=sys.stderr)
         os.dup2(os.open(os.devnull, os.O_WRONLY), 1)
         return 3
     except KeyboardInterrupt:

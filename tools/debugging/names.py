@@ -27,14 +27,19 @@ class Part:
         return section + module + (f"+{offset:o}" if offset else "")
 
 
+def is_own(part, address):
+    return part is None or part.has(address)
+
+
 class Names:
     def __init__(self):
         self.values, self.parts, self.labels, self.constants, self.listings = {}, [], {}, {}, []
 
     def add_label(self, name, address, part):
-        """A label is one of its section, at this address; the first one counts."""
+        """A label of a section, or of none that is known. At an address the first one counts whose section has it: others end before it."""
         self.values.setdefault(name, address)
-        self.labels.setdefault(address, (name, part))
+        if address not in self.labels or not is_own(self.labels[address][1], address) and is_own(part, address):
+            self.labels[address] = name, part
 
     def add_constant(self, name, value):
         self.values.setdefault(name, value)

@@ -76,7 +76,7 @@ class Search:
         """The next count to try: as many as the steps so far lead to, or halfway if that was too many."""
         if high is None:
             rate = (low[1] - began[1]) / max(1, low[0] - began[0])
-            more = int(rate * (step - low[0]) * 0.995)
+            more = int(rate * (step - low[0]))
             return low[1] + max(1, more)
         return (low[1] + high) // 2
 
@@ -199,17 +199,17 @@ class Search:
                 found.append(self.nth(address, count, step))
         return max(found)
 
-    # Changes of a word
+    # Changes of a word, by its address, or of a register, by its name
 
-    def next_change(self, address):
-        """The first step after here that changes a word, or why there is none and where the run ends: a word and a step."""
+    def next_change(self, key):
+        """The first step after here that changes it, or why there is none and where the run ends: a word and a step."""
         step = self.time.now
-        if not self.changed_before(address, step):
-            stop, _ = self.time.until(self.time.runs.limit, "-w", f"{address:o}")
+        if isinstance(key, int) and not self.changed_before(key, step):
+            stop, _ = self.time.until(self.time.runs.limit, "-w", f"{key:o}")
             return self.ended(stop)[:2]
         while True:
             self.time.cover(step + 1, step + NEAR)
-            found = self.time.track.next_change(address, step)
+            found = self.time.track.next_change(key, step)
             if found:
                 return "CHANGED", found
             if self.time.track.last < step + NEAR:
@@ -220,50 +220,50 @@ class Search:
 
     def changed_before(self, address, step):
         """A step up to this one changed the word."""
-        if self.time.word(address, step) != self.time.word(address, 0):
+        if self.time.value(address, step) != self.time.value(address, 0):
             return True
         if self.time.track and self.time.track.last_change(address, step):
             return True
         return self.time.until(step, "-w", f"{address:o}")[0].word == "CHANGED"
 
-    def last_change(self, address, is_exact):
-        """The last step up to here that changed a word; and a step after which changes back to the same value may have been missed, or None."""
+    def last_change(self, key, is_exact):
+        """The last step up to here that changed it; and a step after which changes back to the same value may have been missed, or None."""
         step = self.time.now
         for size in (NEAR, FAR):
-            found = self.change_within(address, max(0, step - size), step)
+            found = self.change_within(key, max(0, step - size), step)
             if found or step <= size:
                 return found, None
             step -= size
-        if not self.changed_before(address, step):
+        if isinstance(key, int) and not self.changed_before(key, step):
             return None, None
         while is_exact and step > 0:
             self.time.runs.say(f"looked back to step {step}; Ctrl-C stops it")
-            found = self.change_within(address, max(0, step - FAR), step)
+            found = self.change_within(key, max(0, step - FAR), step)
             if found:
                 return found, None
             step -= FAR
-        return self.halve(address, step)
+        return (None, None) if step <= 0 else self.halve(key, step)
 
-    def change_within(self, address, first, last):
-        """The last of the steps after `first` up to `last` that changed a word, or None."""
+    def change_within(self, key, first, last):
+        """The last of the steps after `first` up to `last` that changed it, or None."""
         self.time.cover(first + 1, last)
-        found = self.time.track.last_change(address, last)
+        found = self.time.track.last_change(key, last)
         return found[0] if found and found[0] > first else None
 
-    def halve(self, address, step):
-        """A change before this step, found by the word's values at fewer and fewer steps; it has been the same since, wherever it was looked at."""
+    def halve(self, key, step):
+        """A change before this step, found by its values at fewer and fewer steps; it has been the same since, wherever it was looked at."""
         self.time.runs.say("the change is far back: its step is found by halving")
-        value, last, size = self.time.word(address, step), step, FAR
+        value, last, size = self.time.value(key, step), step, FAR
         first = max(0, last - size)
-        while first and self.time.word(address, first) == value:
+        while first and self.time.value(key, first) == value:
             size *= 2
             last, first = first, max(0, first - size)
-        if self.time.word(address, first) == value:
+        if self.time.value(key, first) == value:
             return None, step
         while last - first > FAR:
             middle = (first + last) // 2
-            if self.time.word(address, middle) == value:
+            if self.time.value(key, middle) == value:
                 last = middle
             else:
                 first = middle
-        return self.change_within(address, first, last), step
+        return self.change_within(key, first, last), step

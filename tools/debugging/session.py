@@ -8,6 +8,7 @@ from .values import Values, count_of
 
 # The most bytes of new output that are shown at once, and the most steps of one command that are listed.
 OUTPUT, LISTED = 2000, 200
+TRAPS = "(no instruction: it traps)"
 WHY = {"INPUT FAULT": 'the next step reads the console, and all input is read: input "TEXT\\r" gives more, input end ends it',
        "NO START": "the tape has no start: -s OCTAL gives one", "LIMIT": "-n STEPS of m11-debug allows more",
        "WAIT": "no device interrupts", "STACK FAULT": "a trap could not push on the stack"}
@@ -62,10 +63,10 @@ class Session:
         """The instruction at the program counter."""
         track = self.time.track
         if track and track.has(self.now + 1, self.now + 1):
-            return track.line(self.now + 1).text
+            return track.line(self.now + 1).text or TRAPS
         words = self.words(address, address + 4) if not address & 1 else []
         found = self.time.runs.instructions(address, words) if words else []
-        return found[0][1] if found else "(no instruction: it traps)"
+        return found[0][1] if found else TRAPS
 
     def words(self, first, last):
         """The words of memory from one even address to another, as far as it has any."""
@@ -86,12 +87,14 @@ class Session:
         self.move(step, "" if word == "LEFT" else word, more)
 
     def why_halt(self, step):
-        """Says if a HALT is where no section is, as after a trap without a vector."""
+        """Where the HALT was, and whether a trap led there."""
         line = self.time.line(step)
-        address = line.address if line else 0
-        if self.names.parts and not self.names.part_of(address):
-            return f"at {address:06o}, where no section is"
-        return f"at {showing.place(address, self.names)}"
+        if line is None:
+            return ""
+        trap = step > 1 and (self.time.value("SP", step - 2) - 4) & 0o177777 == self.time.value("SP", step - 1)
+        known = self.names.part_of(line.address) or not self.names.parts
+        where = f"at {showing.place(line.address, self.names)}" + ("" if known else ", where no section is")
+        return where + (f", after a trap in step {step - 1}" if trap else "")
 
     def go(self):
         self.check_end()
@@ -164,18 +167,17 @@ class Session:
 
     def watch(self, text):
         self.check_end()
-        address = self.values.place(text)
-        word, step = self.search.next_change(address)
-        self.moved_to_change(word, step, address)
-
-    def moved_to_change(self, word, step, address):
+        key = self.values.key(text)
+        word, step = self.search.next_change(key)
         if word != "CHANGED":
             self.stop_at((word, step, None))
             return
         line = self.time.line(step)
         self.out(showing.shown_line(line, self.names))
-        value = dict(line.changed()).get(address)
-        self.move(step, "CHANGED", f"{showing.place(address, self.names)} is {value:06o} now")
+        self.move(step, "CHANGED", f"{self.shown_key(key)} is {dict(line.changed())[key]:06o} now")
+
+    def shown_key(self, key):
+        return key if isinstance(key, str) else showing.place(key, self.names)
 
     # Backwards
 
@@ -229,21 +231,20 @@ class Session:
         self.stop_at(("REACHED", step, one))
 
     def back_change(self, text, rest):
-        """Back to where the next step is the last one that changed a word."""
+        """Back to where the next step is the last one that changed a word or a register."""
         if rest not in ("", "exactly"):
             raise Refused(f"{rest} isn't understood: back PLACE exactly looks at each step")
-        address = self.values.place(text)
-        step, since = self.search.last_change(address, rest == "exactly")
+        key = self.values.key(text)
+        step, since = self.search.last_change(key, rest == "exactly")
         if step is None:
             if since is None:
-                raise Refused(f"no step before changed {showing.place(address, self.names)}")
-            raise Refused(f"{showing.place(address, self.names)} had the same value wherever it was looked at: back PLACE exactly looks at each step")
+                raise Refused(f"no step before changed {self.shown_key(key)}; storing the same value again is no change")
+            raise Refused(f"{self.shown_key(key)} had the same value wherever it was looked at: back {text} exactly looks at each step")
         if since is not None:
             self.out(f"found by halving: later changes back to the same value, up to step {since}, would have been missed; "
                      f"back {text} exactly looks at each step")
-        line = self.time.line(step)
-        before = self.time.word(address, step - 1)
-        self.out(f"step {step} changes {showing.place(address, self.names)} from {before:06o} to {dict(line.changed())[address]:06o}")
+        value = dict(self.time.line(step).changed())[key]
+        self.out(f"step {step} changes {self.shown_key(key)} from {self.time.value(key, step - 1):06o} to {value:06o}")
         self.move(step - 1)
 
     # Breaks

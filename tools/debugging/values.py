@@ -5,6 +5,7 @@ from .runs import Refused
 
 TERM = re.compile(r"\s*(@?)\s*([A-Z0-9$.]+)\s*", re.I)
 REGISTER = re.compile(r"(R[0-7]|SP|PC|PSW?)$", re.I)
+INDEXED = re.compile(r"([A-Z0-9$.]*)\(([A-Z0-9]+)\)", re.I)
 OTHERS = {"R6": "SP", "R7": "PC", "PS": "PSW"}
 COMPARISON = re.compile(r"(.+?)\s*(==|=|#|<>|!=|<=|>=|<|>)\s*(.+)$")
 HOLDS = {"=": lambda a, b: a == b, "==": lambda a, b: a == b, "#": lambda a, b: a != b, "<>": lambda a, b: a != b, "!=": lambda a, b: a != b,
@@ -44,7 +45,8 @@ class Values:
         raise Refused(f"{text} is no name, register or octal number up to 177777")
 
     def of(self, text, step):
-        """The value of terms with + and - between them."""
+        """The value of terms with + and - between them; N(Rn) is a sum too, as in operands."""
+        text = INDEXED.sub(lambda found: f"{found[1]}+{found[2]}" if found[1] else found[2], text)
         total, sign, rest = (0, -1, text.strip()[1:]) if text.strip().startswith("-") else (0, 1, text)
         while True:
             found = TERM.match(rest)
@@ -72,6 +74,11 @@ class Values:
         address = self.of(text, self.time.now)
         self.word(address, 0)
         return address
+
+    def key(self, text):
+        """A register by its name, or the address of a word."""
+        name = text.upper()
+        return register_of(name) if register_of(name) not in (None, "PC") and name not in self.names.values else self.place(text)
 
     def range(self, text):
         """The first and the last address of FIRST:LAST, of FIRST/COUNT with an octal count of bytes or words, or of one place."""
