@@ -1,4 +1,5 @@
-# Completion for bash of the commands m11, m11-build, m11-dump, m11-sav and m11-trace: source this file, or let ./install put it where bash-completion looks.
+# Completion for bash of the commands m11, m11-build, m11-debug, m11-dump, m11-sav and m11-trace: source this file, or let ./install put it where
+# bash-completion looks.
 
 # Files whose names begin with the word and have one of these ends, in large or in small letters, and folders.
 _m11_files() {
@@ -86,8 +87,22 @@ _m11_sav() {
     esac
 }
 
+_m11_debug() {
+    COMPREPLY=()
+    case ${COMP_WORDS[COMP_CWORD - 1]} in
+        -y | --symbols) _m11_files "${COMP_WORDS[COMP_CWORD]}" LM MAP LST OBJ ;;
+        -i | --input | -x | --commands)
+            compopt -o filenames 2>/dev/null
+            mapfile -t COMPREPLY < <(compgen -f -- "${COMP_WORDS[COMP_CWORD]}")
+            ;;
+        -[nskb] | --steps | --start | --words | --bottom) ;;
+        *) _m11_words "${COMP_WORDS[COMP_CWORD]}" '-y --symbols -i --input -x --commands -n --steps -s --start -k --words -b --bottom -h --help'"$(_m11_alone)" TAP ;;
+    esac
+}
+
 complete -F _m11 m11
 complete -F _m11_build m11-build
 complete -F _m11_dump m11-dump
 complete -F _m11_sav m11-sav
 complete -F _m11_trace m11-trace
+complete -F _m11_debug m11-debug

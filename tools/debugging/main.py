@@ -115,14 +115,20 @@ def next_line(commands, is_terminal):
 
 def loop(commands, is_terminal):
     """Makes the commands of standard input. Ctrl-C ends a command, or the line that is typed."""
-    while not commands.is_over:
+    is_over = False
+    while not is_over:
         try:
-            line = next_line(commands, is_terminal)
-            if line is None:
-                return
-            guarded(commands, commands.run, line)
+            is_over = commands.is_over or not make_next(commands, is_terminal)
         except KeyboardInterrupt:
             out("")
+
+
+def make_next(commands, is_terminal):
+    """Makes the next command, and says whether there was one."""
+    line = next_line(commands, is_terminal)
+    if line is not None:
+        guarded(commands, commands.run, line)
+    return line is not None
 
 
 def guarded(commands, call, *given):

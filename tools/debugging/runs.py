@@ -168,7 +168,7 @@ class Live:
         return part != b""
 
     def line(self):
-        """The next step: what it printed, its address, its text and its changes; or None at the end, when `stop` says why."""
+        """The next step: what it printed, and its fields; or None at the end, when `stop` says why."""
         head = b"%d\t" % self.next
         while self.stop is None:
             begin = self.begin_of(head)
@@ -176,7 +176,7 @@ class Live:
             if end >= 0:
                 printed, fields = self.buffer[self.place:begin], self.buffer[begin + len(head):end].split(b"\t")
                 self.place, self.next, self.is_first = end + 1, self.next + 1, False
-                return printed, int(fields[0], 8), fields[1].decode("latin-1"), fields[2:]
+                return printed, fields
             if not self.more():
                 self.end()
         return None

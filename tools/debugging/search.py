@@ -154,13 +154,13 @@ class Search:
 
     def pointers(self, first, last):
         """The steps from `first` to `last` in the lines that changed SP, each with its value."""
-        steps, values = self.time.track.changes.get("SP", ((), ()))
+        steps, values = self.time.track.changes_of("SP")
         begin, end = bisect.bisect_left(steps, first), bisect.bisect_right(steps, last)
-        return list(zip(steps[begin:end], values[begin:end]))
+        return [(step, int(value, 8)) for step, value in zip(steps[begin:end], values[begin:end])]
 
     def entered(self, pointer, step, place):
         """The last step before this one after which SP was at least `pointer`, before a call at `place`; or None."""
-        first = max(1, step - NEAR)
+        first = self.time.near(step)
         self.time.cover(first, step)
         changed = self.pointers(first, step - 1)
         for (_, value), (after, _) in zip(changed[-2::-1], changed[:0:-1]):
@@ -175,8 +175,8 @@ class Search:
     def last_break(self, breaks, step):
         """The last step before this one after which a break stops, with the break, or None."""
         step -= 1
+        first = self.time.near(step) - 1
         while step >= 0:
-            first = max(0, step - NEAR)
             arrived = self.here(breaks, first, step)
             for at, one in reversed(arrived):
                 if self.is_at(one, at):
@@ -188,6 +188,7 @@ class Search:
                 if found:
                     return step, found[0]
                 step -= 1
+            first = max(0, step - FAR)
         return None
 
     def jump_back(self, breaks, step):
@@ -229,11 +230,11 @@ class Search:
     def last_change(self, key, is_exact):
         """The last step up to here that changed it; and a step after which changes back to the same value may have been missed, or None."""
         step = self.time.now
-        for size in (NEAR, FAR):
-            found = self.change_within(key, max(0, step - size), step)
-            if found or step <= size:
+        for first in (self.time.near(step) - 1, max(0, self.time.near(step) - 1 - FAR)):
+            found = self.change_within(key, first, step)
+            if found or first == 0:
                 return found, None
-            step -= size
+            step = first
         if isinstance(key, int) and not self.changed_before(key, step):
             return None, None
         while is_exact and step > 0:

@@ -67,10 +67,17 @@ class Timeline:
         """Has lines for these steps, as far as the run has them, and says whether it has all."""
         first = max(1, first)
         if self.track is None or first < self.track.first or first > self.track.last + FAR:
-            self.begin_track(first - MARGIN)
+            self.begin_track(first if last - first > MARGIN // 2 else first - MARGIN)
         self.track.trim()
         self.track.read_to(last)
         return self.track.last >= last
+
+    def near(self, step):
+        """The first of the steps before this one that have lines, if those are enough for a first look back; else of those that would have."""
+        track = self.track
+        if track and step <= track.last + 1 and (track.first == 1 or track.first <= step - MARGIN // 4):
+            return track.first
+        return max(1, step - MARGIN)
 
     def begin_track(self, first):
         self.drop_track()
@@ -112,6 +119,9 @@ class Timeline:
     def value(self, key, step):
         """A register but PC by its name, or a word by its address, after a step."""
         if step not in self.states:
+            changed = self.track.last_change(key, step) if self.track and self.track.first <= step <= self.track.last else None
+            if changed:
+                return changed[1]
             for begun, state in reversed(self.states.items()):
                 if self.track and self.track.has(min(begun, step) + 1, max(begun, step)):
                     found = self.track.value(key, (begun, value_in(state, key)), step)
@@ -142,10 +152,12 @@ class Timeline:
             return self.track.output_after(step)
         return self.state(step).output
 
-    def arrive(self, step, state=None):
-        """Moves the session to a place of the run."""
+    def arrive(self, step):
+        """Moves the session to a place of the run, with the lines there unless its state is known."""
         if step < 0 or self.ends and step > self.ends.steps:
             raise Refused(f"the run has no step {step}")
+        if step not in self.states:
+            self.cover(step, step + 1)
         self.now = step
 
     def new_output(self):

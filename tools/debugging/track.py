@@ -1,26 +1,48 @@
 """The steps of a part of a run, as m11-trace shows them, with what each one changed: looked up, not computed."""
 import bisect
-import re
 
 from .runs import Live
 
 # A track that has more lines than that forgets all but the last ones.
 MOST, KEPT = 250_000, 50_000
-CHANGE = re.compile(rb"(?:@#)?(\w+) ([0-7]{6})")
 
 
 class Line:
-    """A step: the address and the text of its instruction, and its changes as m11-trace shows them."""
-    __slots__ = ("number", "address", "text", "changes", "printed")
+    """A step: the address and the text of its instruction, and its changes as m11-trace shows them. Most lines are never looked at, so they are
+    kept as they are."""
+    __slots__ = ("number", "printed", "fields")
 
-    def __init__(self, number, printed, address, text, changes):
-        self.number, self.printed, self.address, self.text, self.changes = number, printed, address, text, changes
+    def __init__(self, number, printed, fields):
+        self.number, self.printed, self.fields = number, printed, fields
+
+    @property
+    def address(self):
+        return int(self.fields[0], 8)
+
+    @property
+    def text(self):
+        return self.fields[1].decode("latin-1")
+
+    @property
+    def changes(self):
+        return self.fields[2:]
 
     def changed(self):
         """The changed registers, by their names, and words, by their addresses, with their new values."""
-        for change in self.changes:
-            name, value = CHANGE.match(change).groups()
-            yield int(name, 8) if change.startswith(b"@#") else name.decode(), int(value, 8)
+        for name, value in map(parts_of, self.changes):
+            yield int(name, 8) if name[0] < ord("8") else name.decode(), int(value, 8)
+
+
+def parts_of(change):
+    """What a change is of, and the new value: texts of six digits, or the name of a register, as in `R0 000001`, `PSW 000010 N---`, `@#001000 000001`."""
+    if change[0] == ord("@"):
+        return change[2:8], change[9:15]
+    return (change[:3], change[4:10]) if change[0] == ord("P") else (change[:2], change[3:9])
+
+
+def key_of(name):
+    """The text in changes of a register, given by its name, or of a word, by its address."""
+    return name.encode() if isinstance(name, str) else b"%06o" % name
 
 
 class Track:
@@ -46,10 +68,11 @@ class Track:
 
     def read_to(self, number):
         """Reads the lines up to this step, or to the end of the run."""
-        while self.last < number and self.live.stop is None:
+        for following in range(self.last + 1, number + 1):
             found = self.live.line()
-            if found:
-                self.add(Line(self.last + 1, *found))
+            if not found:
+                break
+            self.add(Line(following, *found))
         stop = self.live.stop
         if stop and stop.word == "INPUT FAULT" and self.lines and self.last == stop.steps:
             # This step was begun, and waits for its byte: it isn't made.
@@ -65,11 +88,15 @@ class Track:
         self.note(line)
 
     def note(self, line):
-        self.places.setdefault(line.address, []).append(line.number)
-        for key, value in line.changed():
-            steps, values = self.changes.setdefault(key, ([], []))
-            steps.append(line.number)
-            values.append(value)
+        number, fields = line.number, line.fields
+        self.places.setdefault(fields[0], []).append(number)
+        for change in fields[2:]:
+            key, value = parts_of(change)
+            found = self.changes.get(key)
+            if found is None:
+                found = self.changes[key] = [], []
+            found[0].append(number)
+            found[1].append(value)
 
     def trim(self):
         """Forgets lines if there are too many."""
@@ -82,9 +109,9 @@ class Track:
 
     def drop_last(self):
         line = self.lines.pop()
-        self.places[line.address].pop()
-        for key, _ in line.changed():
-            for part in self.changes[key]:
+        self.places[line.fields[0]].pop()
+        for change in line.changes:
+            for part in self.changes[parts_of(change)[0]]:
                 part.pop()
 
     def close(self):
@@ -99,21 +126,25 @@ class Track:
         """All that the console printed up to this step, which has a line here."""
         return self.printed + b"".join(line.printed for line in self.lines[:step - self.first + 1])
 
+    def changes_of(self, key):
+        """The steps that changed a register or a word, in order, and the new values as texts."""
+        return self.changes.get(key_of(key), ((), ()))
+
     def last_change(self, key, step):
         """The last step up to this one that changed a register or a word, with its value; or None."""
-        steps, values = self.changes.get(key, ((), ()))
+        steps, values = self.changes_of(key)
         at = bisect.bisect_right(steps, step)
-        return (steps[at - 1], values[at - 1]) if at else None
+        return (steps[at - 1], int(values[at - 1], 8)) if at else None
 
     def next_change(self, key, step):
         """The first step after this one that changed it, or None."""
-        steps, _ = self.changes.get(key, ((), ()))
+        steps, _ = self.changes_of(key)
         at = bisect.bisect_right(steps, step)
         return steps[at] if at < len(steps) else None
 
     def arrivals(self, address, first, last):
         """The numbers of steps from `first` to `last` whose instruction is at this address."""
-        steps = self.places.get(address, ())
+        steps = self.places.get(key_of(address), ())
         return steps[bisect.bisect_left(steps, first):bisect.bisect_right(steps, last)]
 
     def value(self, key, anchor, step):

@@ -95,16 +95,28 @@ class Values:
         if not found:
             raise Refused(f"{text.strip() or 'nothing'} is no condition: it has one of = # < > <= >= between two values")
         left, sign, right = found.groups()
-        now = self.time.now
-        key = register_of(left) if left.upper() not in self.names.values else None
-        self.of(left, now)
-        self.of(right, now)
-        if key is None and not left.startswith("@"):
-            self.place(left)
+        one, other, compare = self.side(left, True), self.side(right, False), HOLDS[sign]
 
         def holds(step):
-            value = self.of(left, step)
-            if key is None and not left.startswith("@"):
-                value = self.word(value, step)
-            return HOLDS[sign](value, self.of(right, step))
+            try:
+                return compare(one(step), other(step))
+            except Refused as refusal:
+                # A word that `@` leads to may be at an odd address, or where no memory is, at some steps.
+                if refusal.status != 2:
+                    raise
+                return False
         return holds
+
+    def side(self, text, is_left):
+        """A function of a step that gives the value of one side of a comparison. On the left a place means its word."""
+        name, now = text.upper(), self.time.now
+        if register_of(name) and name not in self.names.values:
+            return lambda step: self.time.register(register_of(name), step)
+        is_fixed = "@" not in text and not any(register_of(term) for term in re.findall(r"[A-Z0-9$.]+", name) if term not in self.names.values)
+        value = self.of(text, now)
+        if is_left and not text.startswith("@"):
+            self.word(value, 0)
+            if is_fixed:
+                return lambda step: self.time.word(value, step)
+            return lambda step: self.word(self.of(text, step), step)
+        return (lambda step: value) if is_fixed else lambda step: self.of(text, step)

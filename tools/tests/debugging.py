@@ -373,20 +373,28 @@ class Terminal:
         fcntl.ioctl(0, termios.TIOCSCTTY, 0)
         signal.signal(signal.SIGINT, signal.SIG_DFL)
 
-    def type(self, text, wanted):
+    def type(self, text, wanted, patience=PATIENCE):
         """Types a text, and returns what comes up to the wanted text."""
         os.write(self.number, text.encode())
-        self.said, end = "", time.monotonic() + PATIENCE
+        self.said, end = "", time.monotonic() + patience
         while wanted not in self.said:
-            if time.monotonic() > end or not select.select([self.number], [], [], 1)[0]:
-                if time.monotonic() > end:
-                    raise AssertionError(f"{wanted!r} never comes after {text!r}, but\n{self.said}")
+            if time.monotonic() > end:
+                raise AssertionError(f"{wanted!r} never comes after {text!r}, but\n{self.said}")
+            if not select.select([self.number], [], [], 0.1)[0]:
                 continue
             try:
                 self.said += os.read(self.number, 4096).decode("utf-8", "replace")
             except OSError as error:
                 raise AssertionError(f"the session ends before {wanted!r}\n{self.said}") from error
         return self.said
+
+    def interrupt(self, wanted):
+        """Types Ctrl-C, and returns what comes up to the wanted text. Python may miss one while it reads other characters, so it is typed again."""
+        for _ in range(10):
+            os.write(self.number, b"\3")
+            with contextlib.suppress(AssertionError):
+                return self.type("", wanted, 2)
+        raise AssertionError(f"{wanted!r} never comes after Ctrl-C")
 
     def status(self):
         with contextlib.suppress(OSError):
@@ -403,10 +411,10 @@ def check_interrupts(found, folder):
     try:
         terminal.type("", "0> ")
         terminal.type("ste", "ste")
-        terminal.type("\3", "0> ")
+        terminal.interrupt("0> ")
         terminal.type("step\n", "1> ")
         terminal.type("go\n", "Ctrl-C stops it")
-        said = terminal.type("\3", "1> ")
+        said = terminal.interrupt("1> ")
         expect_in(found, "Ctrl-C in a run", said, "stopped by Ctrl-C: still after 1 steps")
         terminal.type("back\n", "0> ")
         said = terminal.type("examine COU\t\n", "0> ")

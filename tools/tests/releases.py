@@ -9,18 +9,18 @@ import subprocess
 
 from tests.repository import NOBODY, PATIENCE, TOP, checks, lines_of, put
 
-WITH = ("README.md", "CHANGELOG.md", "LICENSE-APACHE", "LICENSE-MIT", "NOTICE", "install", "m11-build", "docs", "examples", "tools")
+WITH = ("README.md", "CHANGELOG.md", "LICENSE-APACHE", "LICENSE-MIT", "NOTICE", "install", "m11-build", "m11-debug", "docs", "examples", "tools")
 PROGRAMS = ("m11", "m11-dump", "m11-trace")
-AT_THE_TOP = ("m11", "m11-build", "m11-dump", "m11-trace")
+AT_THE_TOP = ("m11", "m11-build", "m11-debug", "m11-dump", "m11-trace")
 SCRIPTS = ("adapt", "lines", "sav", "unlib", "unmac")
 LINKS = [f"bin/{name}" for name in AT_THE_TOP] + [f"bin/m11-{name}" for name in SCRIPTS]
-LINKS += [f"share/bash-completion/completions/{name}" for name in ("m11", "m11-build", "m11-dump", "m11-sav", "m11-trace")]
+LINKS += [f"share/bash-completion/completions/{name}" for name in ("m11", "m11-build", "m11-debug", "m11-dump", "m11-sav", "m11-trace")]
 LINKS += [f"share/man/man1/{name}.1" for name in (*AT_THE_TOP, *(f"m11-{name}" for name in SCRIPTS))]
 # Some of the released files, and some of those that aren't.
 RELEASED = ("CHANGELOG.md", "LICENSE-APACHE", "LICENSE-MIT", "NOTICE", "README.md", "RELEASE", "SHA256SUMS", "VERSION", "dist/MANIFEST", "dist/m11-trace",
-            "docs/COMMANDS.md", "docs/man/m11-adapt.1", "docs/man/m11-dump.1", "examples/link/MAIN.OBJ", "examples/rt11/NTYPE.MAC", "examples/rt11/RT11.MAC",
-            "examples/rt11/RTCALL.MAC", "install", "m11", "m11-build", "tools/adapt", "tools/adapting/scan.py", "tools/building/main.py", "tools/completion.bash",
-            "tools/images/saves.py", "tools/program.sh", "tools/sav", "tools/version")
+            "docs/COMMANDS.md", "docs/man/m11-adapt.1", "docs/man/m11-debug.1", "docs/man/m11-dump.1", "examples/link/MAIN.OBJ", "examples/rt11/NTYPE.MAC",
+            "examples/rt11/RT11.MAC", "examples/rt11/RTCALL.MAC", "install", "m11", "m11-build", "m11-debug", "tools/adapt", "tools/adapting/scan.py",
+            "tools/building/main.py", "tools/completion.bash", "tools/debugging/main.py", "tools/images/saves.py", "tools/program.sh", "tools/sav", "tools/version")
 NOT_RELEASED = ("check", "crates.txt", "crates", ".git", "examples/modules/MAIN.OBJ", "out", "prove", "tools/adapting/__pycache__", "tools/proving.bash",
                 "tools/release", "tools/test.py", "tools/tests")
 NUMBER = "1.2.3"
@@ -94,7 +94,7 @@ def expect_installed(repository, prefix, commit):
         repository.expect(f"version of {name}", by_nobody(room, program, "--version"),
                           (0, f"{name} {NUMBER}, commit {commit}, sources {sum_of_sources(repository, name)}, kit kit-1 logic 1\n", ""))
         with open(os.path.join(prefix, "share/bash-completion/completions", name), encoding="utf-8") as file:
-            repository.expect(f"completion of {name}", file.read().endswith("complete -F _m11_trace m11-trace\n"), True)
+            repository.expect(f"completion of {name}", file.read().endswith("complete -F _m11_debug m11-debug\n"), True)
     for name in (*AT_THE_TOP, *(f"m11-{name}" for name in SCRIPTS)):
         repository.expect(f"heading of the page of {name}", lines_of(os.path.join(prefix, "share/man/man1", name + ".1"))[:1],
                           [f'.TH {name.upper()} 1 "" "m11 {NUMBER}" "Tools for PDP-11 software"'])
@@ -104,7 +104,7 @@ def expect_installed(repository, prefix, commit):
         repository.expect(" ".join(words), by_nobody(room, m11, *words), (2, "", said))
     repository.expect("m11-adapt", by_nobody(room, os.path.join(prefix, "bin", "m11-adapt"), "P.MAC"), (0, "\t.END\n", ""))
     repository.expect("m11-lines", by_nobody(room, os.path.join(prefix, "bin", "m11-lines"), "P.MAC", given="E 1:\n"), (0, "P.MAC:1: E:\n", ""))
-    for name in ("m11-build", "m11-lines", "m11-sav", "m11-unlib", "m11-unmac"):
+    for name in ("m11-build", "m11-debug", "m11-lines", "m11-sav", "m11-unlib", "m11-unmac"):
         status, out, _ = by_nobody(room, os.path.join(prefix, "bin", name), "--help")
         repository.expect(f"help of {name}", (status, out.startswith(f"usage: {name} ")), (0, True))
     repository.expect("what is left", sorted(os.listdir(room)), ["P.MAC"])

@@ -218,5 +218,17 @@ def check_build_completion(repository):
         repository.expect(f"m11-{call} {words}", (" ".join(sorted(said.stdout.split())), said.stderr), (wanted, ""))
 
 
+def check_debug_completion(repository):
+    """The completions after some words of m11-debug."""
+    for name in ("q.tap", "P.OBJ", "P.TAP", "P.LM", "commands"):
+        put(os.path.join(repository.folder, "work", name), "")
+    for words, wanted in (([""], "P.TAP q.tap"), (["-y", "P"], "P.LM P.OBJ"), (["-x", "com"], "commands"), (["-n", ""], ""), (["--com"], "--commands"),
+                          (["--v"], "--version"), (["P.TAP", "--v"], "")):
+        said = subprocess.run(["bash", "-c", 'source "$0"; COMP_WORDS=("$@"); COMP_CWORD=$(($# - 1)); _m11_debug; printf "%s\\n" "${COMPREPLY[@]}"',
+                               repository.at("tools/completion.bash"), "m11-debug", *words], cwd=os.path.join(repository.folder, "work"),
+                              capture_output=True, text=True, check=False)
+        repository.expect(f"after {words}", (" ".join(sorted(said.stdout.split())), said.stderr), (wanted, ""))
+
+
 CHECKS = checks(check_programs, check_calls, check_machines, check_time, check_version, check_paths, check_completion, check_dump_completion,
-                check_trace_completion, check_build_completion, of="scripts")
+                check_trace_completion, check_build_completion, check_debug_completion, of="scripts")
