@@ -3,6 +3,7 @@ import re
 
 from . import calls, showing
 from .runs import NEVER, Refused
+from .session import MANY
 from .values import count_of, register_of
 
 HELP = """PLACE is a name, an octal number or a register, with + and -; @PLACE is the word
@@ -32,7 +33,8 @@ LETTERS = {"b": "break", "d": "delete", "g": "go", "c": "continue", "s": "step",
            "e": "examine", "r": "registers", "l": "last", "i": "input", "h": "help", "?": "help", "q": "quit", ".": "where", "n": "step", "=": "evaluate"}
 OTHERS = {"continue": "go", "proceed": "go", "exit": "quit", "bye": "quit", "stack": "calls", "frames": "calls", "breakpoint": "break", "nobreak": "delete",
           "next": "over", "finish": "out", "do": "source"}
-NOT_HERE = {"deposit": "each state is that of the run, so nothing can be changed: change the source, or the input", "load": "the tape is that of the command line"}
+NOT_HERE = {"deposit": "each state is that of the run, so nothing can be changed: change the source, or the input",
+            "load": "the tape is that of the command line"}
 # What ODT's forms mean here: PLACE/ PLACE;B ;P ;G
 ODT = ((re.compile(r"\$([0-7])/$"), r"evaluate R\1"), (re.compile(r"([^\s/;]+)/$"), r"examine \1"), (re.compile(r"([^\s/;]+);[Bb]$"), r"break \1"),
        (re.compile(r";[PpGg]$"), "go"))
@@ -135,7 +137,7 @@ class Commands:
         self.session.show_place()
 
     def do_last(self, rest):
-        count = count_of(rest, "number of steps") if rest else 16
+        count = min(MANY, count_of(rest, "number of steps") if rest else 16)
         now = self.session.now
         for line in self.session.time.lines(now - count + 1, now):
             self.out(showing.shown_line(line, self.session.names))

@@ -29,7 +29,8 @@ def words(argv):
     parser.add_argument("-n", "--steps", metavar="STEPS", default="100000000", help="the most steps of the run, in decimal; by default 100000000")
     parser.add_argument("-s", "--start", metavar="OCTAL", help="where to start, as for m11 sim")
     parser.add_argument("-k", "--words", metavar="WORDS", help="the words of memory, as for m11 sim")
-    parser.add_argument("-b", "--bottom", metavar="OCTAL", default="1000", help="where the relocatable sections of a listing or of objects begin; by default 1000")
+    parser.add_argument("-b", "--bottom", metavar="OCTAL", default="1000",
+                        help="where the relocatable sections of a listing or of objects begin; by default 1000")
     parser.add_argument("tape", metavar="TAPE", help="the tape")
     given = parser.parse_args(argv)
     if not re.fullmatch(r"[0-9]{1,10}", given.steps) or int(given.steps) > 1_000_000_000:
@@ -185,6 +186,9 @@ def main(argv, top):
         if stream is not None:
             stream.reconfigure(encoding="utf-8", errors="surrogateescape")
     given = words(argv)
+    for number in (signal.SIGTERM, signal.SIGHUP):
+        # What was begun is ended, and what was made removed.
+        signal.signal(number, lambda number, _: sys.exit(128 + number))
     try:
         debug(given, top)
     except Refused as refusal:

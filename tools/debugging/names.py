@@ -20,7 +20,9 @@ class Part:
         return self.address <= address < self.address + self.size
 
     def place(self, address):
-        """An address that no name precedes."""
+        """An address that no name precedes. In the absolute section it says itself where it is."""
+        if self.section == ". ABS.":
+            return ""
         section = self.section or ". BLK."
         module = f"({self.module})" if self.is_shared and self.module else ""
         offset = address - self.address
@@ -199,14 +201,18 @@ def place_by_parts(names, listings):
     """Each listing is of the module whose parts have its sections' names and sizes, and its title if several have them."""
     modules = modules_of(names.parts)
     for listing in listings:
-        fitting = [parts for parts in modules if all(size == 0 and name not in parts or name in parts and parts[name].size == size
-                                                    for name, size in listing.sections.values())]
+        fitting = [parts for parts in modules if has_sections(parts, listing)]
         titled = [parts for parts in fitting if {part.module for part in parts.values()} == {listing.title}]
         if not fitting:
             raise Refused(f"{listing.path} is of no module of the load map: none has its sections with their sizes", 4)
         parts = (titled or fitting)[0]
         modules = [other for other in modules if other is not parts]
         listing.parts = {number: parts[name] for number, (name, _) in listing.sections.items() if name in parts}
+
+
+def has_sections(parts, listing):
+    """The parts are those of the listing's sections: a section without words may be missing."""
+    return all(parts[name].size == size if name in parts else size == 0 for name, size in listing.sections.values())
 
 
 def modules_of(parts):
@@ -236,7 +242,8 @@ def place_by_sections(names, listings):
                 sizes[name] = max(sizes[name], size) if is_shared else sizes[name] + size + size % 2
     for name, part in whole.items():
         if sizes[name] != part.size:
-            raise Refused("these listings aren't those of all modules of the map, in the order of the link: give the load map instead, as m11-dump -m writes it", 2)
+            raise Refused("these listings aren't those of all modules of the map, in the order of the link: give the load map instead, as m11-dump -m "
+                          "writes it", 2)
     names.parts = parts
 
 

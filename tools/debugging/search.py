@@ -106,7 +106,10 @@ class Search:
 
     def next_break(self, breaks, step):
         """The next break after a step: why the run stops, after which step, and the break if it is one."""
+        begun = step
         while True:
+            if step - begun == 10 * NEAR:
+                self.time.runs.say("each step is looked at; Ctrl-C stops it")
             arrived = self.here(breaks, step + 1, step + NEAR)
             for at, one in arrived:
                 if self.is_at(one, at):

@@ -8,6 +8,8 @@ from .values import Values, count_of
 
 # The most bytes of new output that are shown at once, and the most steps of one command that are listed.
 OUTPUT, LISTED = 2000, 200
+# The most steps whose lines are read for one command.
+MANY = 20_000
 TRAPS = "(no instruction: it traps)"
 WHY = {"INPUT FAULT": 'the next step reads the console, and all input is read: input "TEXT\\r" gives more, input end ends it',
        "NO START": "the tape has no start: -s OCTAL gives one", "LIMIT": "-n STEPS of m11-debug allows more",
@@ -44,7 +46,8 @@ class Session:
     def show_output(self):
         fresh = self.time.new_output()
         if fresh:
-            self.out(f"console printed {len(fresh)} byte{'s' * (len(fresh) != 1)}" + (f", the last {OUTPUT} of which are" if len(fresh) > OUTPUT else "") + ":")
+            shown = f", the last {OUTPUT} of which are" if len(fresh) > OUTPUT else ""
+            self.out(f"console printed {len(fresh)} byte{'s' * (len(fresh) != 1)}{shown}:")
             for text in showing.texts_of(fresh[-OUTPUT:]):
                 self.out("  " + text)
 
@@ -106,6 +109,9 @@ class Session:
 
     def step(self, count):
         self.check_end()
+        if count > MANY:
+            self.to(self.now + count)
+            return
         lines = self.time.lines(self.now + 1, self.now + count)
         if len(lines) > LISTED:
             self.out(f"the first {len(lines) - LISTED} lines aren't shown")
@@ -152,8 +158,7 @@ class Session:
         self.stop_at(self.search.until_above(link + 2, list(self.breaks.values()), place + self.call_length(place)))
 
     def to(self, step):
-        if step > self.time.runs.limit:
-            raise Refused(f"the run has at most {self.time.runs.limit} steps: -n STEPS of m11-debug allows more")
+        step = min(step, self.time.runs.limit)
         track = self.time.track
         if step not in self.time.states and not (track and track.first <= step <= track.last):
             stop, _ = self.time.until(step)
@@ -185,7 +190,8 @@ class Session:
         what, _, rest = text.partition(" ")
         if self.now == 0:
             raise Refused("this is the start of the run")
-        if re.fullmatch(r"[0-9]*", what):
+        if re.fullmatch(r"([1-9][0-9]*|0)?", what):
+            # With another 0 before it a number is an address.
             self.move(max(0, self.now - (count_of(what, "number of steps") if what else 1)))
         elif what in ("over", "out", "break", "breaks", "call"):
             {"over": self.back_over, "out": self.back_out, "call": self.back_out}.get(what, self.back_break)()

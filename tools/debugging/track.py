@@ -4,7 +4,7 @@ import bisect
 from .runs import Live
 
 # A track that has more lines than that forgets all but the last ones.
-MOST, KEPT = 250_000, 50_000
+MOST, KEPT = 120_000, 30_000
 
 
 class Line:
