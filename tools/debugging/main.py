@@ -138,6 +138,9 @@ def guarded(commands, call, *given):
         call(*given)
     except Refused as refusal:
         out(str(refusal))
+        if refusal.status != 2:
+            # A call of m11-trace failed: the next question begins a new one.
+            commands.session.time.drop_track()
     except KeyboardInterrupt:
         commands.session.time.drop_track()
         out(f"stopped by Ctrl-C: still after {commands.session.now} steps")

@@ -8,7 +8,6 @@ from .runs import NEVER
 
 # How many lines are read before m11-trace is asked to stop by itself, and the most that a look back reads at once.
 NEAR, FAR = 10_000, 100_000
-TOP_OF_STACK = 0o160000
 
 
 class Break:
@@ -61,24 +60,25 @@ class Search:
     def nearer(self, address, step, before, count):
         """A step close to this one, and how often the address had been reached by then; or the step itself. Each guess is a call."""
         self.time.runs.say(f"counting how often {address:06o} was reached before")
-        low, high, guess, began = (before, count), None, count + 1, (before, count)
+        low, high, known = (before, count), None, []
         while step - low[0] > NEAR and (high is None or high - low[1] > 1):
+            guess = self.guess(low, high, known, step)
             reached = self.nth(address, guess, step)
             if reached is None:
                 high = guess
             else:
                 low = (reached, guess)
-            guess = self.guess(began, low, high, step)
+                known.append(low)
         return (step, low[1]) if high == low[1] + 1 else low
 
     @staticmethod
-    def guess(began, low, high, step):
-        """The next count to try: as many as the steps so far lead to, or halfway if that was too many."""
-        if high is None:
-            rate = (low[1] - began[1]) / max(1, low[0] - began[0])
-            more = int(rate * (step - low[0]))
-            return low[1] + max(1, more)
-        return (low[1] + high) // 2
+    def guess(low, high, known, step):
+        """The next count to try: as many as the arrivals known so far lead to, or halfway if that was too many."""
+        more = 1
+        if len(known) > 1:
+            (begun, count), (last, greatest) = known[0], known[-1]
+            more = max(1, int((greatest - count) * (step - low[0]) / max(1, last - begun)))
+        return low[1] + more if high is None or low[1] + more < high else (low[1] + high) // 2
 
     def nth(self, address, count, limit):
         """The step after which the program counter comes to an address for this time, if it does in `limit` steps; else None."""
@@ -131,6 +131,10 @@ class Search:
             return self.ended(stop), stop.steps
         for address, count in counts.items():
             self.mark(address, stop.steps, count - (address != state.registers["PC"]))
+        here = [count for address, count in asked if address == state.registers["PC"]]
+        if len(here) == 1:
+            self.mark(state.registers["PC"], stop.steps, here[0])
+            self.reached[state.registers["PC"], here[0]] = stop.steps
         one = next((one for one in breaks if one.address == state.registers["PC"] and self.is_at(one, stop.steps)), None)
         return ("REACHED", stop.steps, one) if one else None, stop.steps
 
@@ -177,17 +181,22 @@ class Search:
 
     def last_break(self, breaks, step):
         """The last step before this one after which a break stops, with the break, or None."""
-        step -= 1
-        first = self.time.near(step) - 1
-        while step >= 0:
+        counted = [(self.nth(one.address, one.count, step - 1), one) for one in breaks if one.count]
+        found = max((pair for pair in counted if pair[0] is not None), key=lambda pair: pair[0], default=None)
+        return self.last_uncounted([one for one in breaks if not one.count], step - 1, found[0] if found else -1) or found
+
+    def last_uncounted(self, breaks, step, lowest):
+        """The last step up to this one, and after the lowest, after which a break without a count stops, with the break, or None."""
+        first = max(self.time.near(step) - 1, 0)
+        while breaks and step > lowest:
             arrived = self.here(breaks, first, step)
             for at, one in reversed(arrived):
                 if self.is_at(one, at):
-                    return at, one
+                    return (at, one) if at > lowest else None
             step = first - 1
-            if step >= 0 and not arrived:
+            if step > lowest and not arrived:
                 step = self.jump_back(breaks, step)
-                found = [one for one in breaks if step >= 0 and one.address == self.time.register("PC", step) and self.is_at(one, step)]
+                found = [one for one in breaks if step > lowest and one.address == self.time.register("PC", step) and self.is_at(one, step)]
                 if found:
                     return step, found[0]
                 step -= 1
