@@ -32,10 +32,11 @@ sys.path.insert(0, HERE)
 import pasm  # noqa: E402
 from adapting.main import adapt  # noqa: E402
 from adapting.names import INSTRUCTIONS  # noqa: E402
-from tests import building, checking, coming, debugging, definitions, disassembly, examples, flags, floating, images, libraries, mistakes, ntype, prompts, proving, releases, scripts, strict, texts  # noqa: E402
+from tests import (building, checking, coming, debugging, definitions, disassembly, examples, flags, floating, images, libraries,  # noqa: E402
+                   mistakes, ntype, prompts, proving, refusals, releases, scripts, strict, texts)
 
-MODULES = (scripts, proving, checking, releases, examples, coming, disassembly, mistakes, texts, floating, ntype, flags, libraries, building, strict, images, definitions, debugging, debugging,
-           prompts)
+MODULES = (scripts, proving, checking, releases, examples, coming, disassembly, mistakes, refusals, texts, floating, ntype, flags, libraries, building,
+           strict, images, definitions, debugging, prompts)
 PARTS = ("words", "file", "source", "after", "map", "reports", "status", "flagged", "equal", "messages", "turned")
 
 
