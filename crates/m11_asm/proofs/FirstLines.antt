@@ -12,11 +12,8 @@ use Rattle.m11_scan.specs.Lines.{most_lines}
 use Rattle.m11_scan.specs.Reader.{LineReading, ReadsNext, position, unread}
 use Rattle.m11_scan.specs.declared.fault.LineFault.{LineFault}
 use Rattle.m11_scan.specs.declared.fault.LineFault.TheVariants.{Read, TooMuchSource, TooManyLines}
-use Rattle.m11_asm_passes.specs.Lines as lines
-use Rattle.m11_asm_passes.specs.Lines.{with_line}
 use Rattle.m11_asm_rules.specs.Meanings.{empty_map}
 use Rattle.m11_scan_line_laws.specs.Extents.{GaveLines}
-use Rattle.m11_unfold_rules.specs.Stages.{start}
 use Rattle.m11_asm.specs.Extents as extents
 use Rattle.m11_asm.specs.Extents.{GivesToEnd}
 use Rattle.m11_asm.specs.FirstReading.{FirstStops, FirstPassDone, GivesSymbols, ReadsLines}
@@ -107,8 +104,7 @@ module _ {F : Type 0} (text : F → Option Text) (faults : F → ℕ) (initial h
           → FirstStops (pass_of text faults initial later) stopped
       refused_so fault.NoMemory fails = (
         begun_more.reads.0,
-        extents.GivesToStop.InLine (so.source ++ line ∷ []) so.stands.lines (with_line line unended.stage)
-            (lines.PassLines.Reading so.source so.stands.lines unended.stage line unended.live unended.left unended.goes_on) given_more,
+        extents.GivesToLack.InLine (so.source ++ line ∷ []) fails.1 fails.2 given_more,
       )
       refused_so fault.Read fails = absurd fails.2
       refused_so (fault.Write output) fails = absurd fails.2
@@ -145,8 +141,7 @@ none_given text faults feeds (Err stopped) is =
     let P : AsmFault → Type 0 = λ f. FirstStops (pass_of text faults feeds feeds) f in
     subst P (sym is) (
       none_failed faults feeds,
-      extents.GivesToStop.InLine [] [] (start []) lines.PassLines.Begins
-          (lines_given text faults feeds feeds unread [] (reader_begins text faults feeds unread refl)),
+      extents.GivesToLack.AtStart (lines_given text faults feeds feeds unread [] (reader_begins text faults feeds unread refl)),
     )
 
 no_fault : (first : FirstState) (came : AsmFault) → first.fault ≡ None → first.fault ≡ Some came → ⊥

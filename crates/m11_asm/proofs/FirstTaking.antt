@@ -4,7 +4,7 @@ use Rattle.std.proofs.lemmas.List.{map-append}
 use Rattle.std.specs.Option.{option_or}
 use Rattle.std.specs.Result.{result_err}
 use Rattle.m11_asm_faults.specs.declared.fault.AsmFault.{AsmFault}
-use Rattle.m11_asm_faults.specs.declared.fault.AsmFault.TheVariants.{TooMuchSource}
+use Rattle.m11_asm_faults.specs.declared.fault.AsmFault.TheVariants.{TooMuchSource, NoMemory}
 use Rattle.m11_scan.specs.Line.{SourceLine}
 use Rattle.m11_scan.specs.Lines.{most_lines}
 use Rattle.m11_unfold_rules.specs.Stages.{start}
@@ -83,6 +83,16 @@ module _ (turn : TurnsSo) (source : List SourceLine) (old new : PassState) (live
                 ∙ sym (facts_more some.0 one);
           },
         )
+
+    -- if memory is refused for the facts of a live line, the line itself exceeds no limit
+    pub note_fails : came ≡ Line → (fault : AsmFault) → fault ≡ NoMemory → (later : Facts) (result : Result Bool AsmFault)
+        → IsErrAnd result (λ f. f ≡ fault) → PlacesLeft source new later result
+    note_fails is fault none later (Ok ended) said = absurd said
+    note_fails is fault none later (Err other) said =
+        let here : PlacesLine empty_map none_used source some.0 new (live_in live) (SaysLive live) =
+        places_line empty_map none_used source old new (live_in live) (SaysLive live) law (AreFactsOf facts) some came turned is in
+        let P : AsmFault → Type 0 = λ f. Refused empty_map none_used source some.0 f in
+        (some.0, subst P (sym (said ∙ none)) here.may_lack)
 
     pub left_rests : came ≡ NeedLine → AllDone empty_map none_used (AreFactsOf facts) source new false
     left_rests is =

@@ -50,17 +50,17 @@ module _ {F : Type 0} (Untouched : Type 0) (first second : Pass F) (old new : Ou
       (subst (λ (p : Program). ReadsSecond second p old new result) (program_is first symbols gives) reads)
 
 -- how far both passes read their feeds
-module _ {F : Type 0} (first second : Pass F) where
+module _ {F : Type 0} (first second : Pass F) (old new : Outputs) where
   gives_by : (lines : List NumberedLine) → GivesToEnd first empty_map none_used lines → (result : Result AsmDone AsmFault)
-      → SecondGives second (program_of (givens lines)) result → AsmGives first second result
+      → SecondGives second (program_of (givens lines)) old new result → AsmGives first second old new result
   gives_by lines given (Ok done) gives = (lines, given, gives)
   gives_by lines given (Err stopped) gives = inr (lines, given, gives)
 
   pub asm_gives : (symbols : Symbols) → GivesSymbols first (Ok symbols) → (result : Result AsmDone AsmFault)
-      → SecondGives second (program_in symbols) result → AsmGives first second result
+      → SecondGives second (program_in symbols) old new result → AsmGives first second old new result
   asm_gives symbols gives result given =
       gives_by gives.1.stands.lines (first_gives first gives.0 gives.1) result
-      (subst (λ (p : Program). SecondGives second p result) (program_is first symbols gives) given)
+      (subst (λ (p : Program). SecondGives second p old new result) (program_is first symbols gives) given)
 
 -- a run that is Ok has the outcome of its readings
 pub has_outcome : {F : Type 0} (first second : Pass F) (old new : Outputs) (done : AsmDone) → AsmRuns first second old new (Ok done)

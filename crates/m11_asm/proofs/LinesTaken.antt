@@ -11,6 +11,8 @@ use Rattle.m11_unfold_rules.specs.Stages.{Stage}
 use Rattle.m11_asm_rules.specs.Meanings.{Map}
 use Rattle.m11_asm_lines.specs.declared.counting.Counting.{Counting}
 use Rattle.m11_asm_passes.specs.Lines.{NumberedLine, PassLines}
+use Rattle.m11_asm_passes.specs.Reaching as reaching
+use Rattle.m11_asm_passes.specs.Reaching.{MayLackMemory}
 use Rattle.m11_asm.specs.Extents as extents
 use Rattle.m11_asm.specs.Extents.{GivesToEnd, GivesToFault, HaveGiven}
 use Rattle.m11_asm.specs.Outcome as outcome
@@ -51,6 +53,12 @@ pub unended_so : (map_ : Map) (counting : Counting) (Done : List NumberedLine �
 unended_so map_ counting Done source state stands goes =
     unended_at map_ counting source stands.lines state.pass_state.unfolder.stage stands.taken.stands.lines_are state.has_ended stands.ended
     stands.needs goes
+
+-- memory is refused at a stage that these live lines lead to
+pub lines_before : (map_ : Map) (counting : Counting) (source : List SourceLine) (lines : List NumberedLine)
+    → MayLackMemory map_ counting source lines → (stage : Stage) × PassLines map_ counting source lines stage
+lines_before map_ counting source lines (reaching.MayLackMemory.BeforeLine stage live fits grows) = (stage, live)
+lines_before map_ counting source lines (reaching.MayLackMemory.AtLine stage after next live fits gives lacks) = (stage, live)
 
 -- ---- over feeds
 

@@ -1,5 +1,5 @@
 -- The second pass over feeds, line by line.
-use Rattle.std.proofs.Common.{◌≡◌, ◌∙◌, ℕ, ◌+◌, Bool, true, false, List, [], ◌∷◌, ◌++◌, length, Option, Some, None, Result, Ok, Err, IfOk, IsErrAnd, refl, sym, ap, subst, inl, inr, arith}
+use Rattle.std.proofs.Common.{◌≡◌, ◌∙◌, ℕ, ◌+◌, true, false, List, [], ◌∷◌, ◌++◌, length, Option, Some, None, Result, Ok, Err, IfOk, IsErrAnd, refl, sym, ap, subst, inl, inr, arith, append-nil}
 use Rattle.m11_asm_faults.specs.Faults.{of_lines}
 use Rattle.std.specs.Prelude.{OnOk}
 use Rattle.m11_asm_outputs.specs.Object.{AllFit, object_contents}
@@ -16,13 +16,14 @@ use Rattle.m11_scan.specs.declared.fault.LineFault.TheVariants.{Read, TooMuchSou
 use Rattle.m11_asm_passes.specs.Lines as lines
 use Rattle.m11_scan_line_laws.specs.Extents.{GaveLines}
 use Rattle.m11_asm.specs.Program.{Program}
-use Rattle.m11_asm.specs.Second.{SecondEnds, SecondFails, SecondAfter, SecondState, SecondReadsLine, StopsAmong, Wrote, ended_with, line_state}
+use Rattle.m11_asm.specs.Second as second
+use Rattle.m11_asm.specs.Second.{SecondEnds, SecondFails, SecondAfter, SecondState, SecondReadsLine, StopsAmong, StopsForMemory, Wrote, ended_with, line_state}
 use Rattle.m11_asm.specs.Written.{EndOfSource, flagged_count, pieces_in, program_writes, written}
 use Rattle.m11_asm.specs.declared.done.AsmDone.{AsmDone}
 use Rattle.m11_unfold_rules.specs.Stages.{start}
 use Rattle.m11_base_writes.proofs.Writing.{refused_between}
 use Rattle.m11_asm.specs.Extents as extents
-use Rattle.m11_asm.specs.Extents.{GivesToEnd, GivesToStop, HaveGiven}
+use Rattle.m11_asm.specs.Extents.{GivesToEnd, GivesToFault, SecondGives}
 use Rattle.m11_asm.specs.Outcome as outcome
 use Rattle.m11_asm.specs.Outcome.{Ends, Unended}
 use Rattle.m11_asm.specs.Passes as passes
@@ -30,9 +31,22 @@ use Rattle.m11_base_writes.specs.Passes.{Pass, pass_of}
 use Rattle.m11_asm.specs.Passes.{ReadsSecond, StopsAmongWrites}
 use Rattle.m11_asm.specs.SecondReading.{PutsAll, SecondPassDone}
 use Rattle.m11_asm.proofs.LinesRead.{Begun, SoFar, begun, failed, few_read, lines_given, one_more, reader_begins, too_many, too_much}
-use Rattle.m11_asm.proofs.LinesTaken.{IsAfterSoFar, ends_by, given_to_end, given_to_fault, taken_to_end, taken_wholly, unended_at, unended_so}
+use Rattle.m11_asm.proofs.LinesTaken.{IsAfterSoFar, ends_by, given_to_end, given_to_fault, lines_before, taken_to_end, taken_wholly, unended_so}
 use Rattle.m11_asm.specs.LinesDone.{LinesDone}
 use Rattle.m11_asm_lines.specs.declared.counting.Counting.TheVariants.{Definitions}
+
+-- if memory is refused, the writes end between two of those of live lines
+stops_between : (program : Program) (source : List SourceLine) (old new : Outputs) → StopsForMemory program source old new
+    → StopsAmong (StopsBetween old new) program source
+stops_between program source old new (second.StopsForMemory.BeforeLine lines may_lack gains) =
+    let at = lines_before program.map Definitions source lines may_lack in record {
+      lines = lines;
+      stage = at.0;
+      live = at.1;
+      stops = record { done = written program lines; more = []; split = sym (append-nil (written program lines)); gains = gains };
+    }
+stops_between program source old new (second.StopsForMemory.InLine lines next stage may_lack live stops) =
+    record { lines = lines ++ next ∷ []; stage = stage; live = live; stops = stops }
 
 -- the state of the pass after the lines that the reader has returned
 abbrev pub SecondSoFar : {F : Type 0} → (F → Option Text) → (F → ℕ) → List F → List F → LineReading
@@ -55,7 +69,7 @@ module _ {F : Type 0} (text : F → Option Text) (faults : F → ℕ) (program :
             stops = refused_between assembly old (written program []);
           },
         ),
-        extents.GivesToStop.InLine [] [] (start []) lines.PassLines.Begins (lines_given text faults feeds feeds unread [] none),
+        extents.LacksWriting.AtStart (lines_given text faults feeds feeds unread [] none) refl,
       )
 
   pub none_read : (feeds : List F) (result : Result AsmDone AsmFault) → IsErrAnd result (λ e. e ≡ fault.NoMemory)
@@ -111,6 +125,13 @@ module _ {F : Type 0} (text : F → Option Text) (faults : F → ℕ) (program :
         stands.taken.done.gains,
       )
 
+      -- a fault of reading is neither a failed write nor a lack of memory
+      gives_so : (came : LineFault) → GivesToFault (pass_of text faults initial later) program.map Definitions (of_lines came)
+          → SecondGives (pass_of text faults initial later) program old now (Err (of_lines came))
+      gives_so Read gives = gives
+      gives_so TooMuchSource gives = gives
+      gives_so TooManyLines gives = gives
+
       pub second_stops : (came : LineFault) (stopped : AsmFault) → stopped ≡ of_lines came
           → ReadsNext (position text faults here reader) (position text faults later reader') (Err came)
           → PutsAll (pass_of text faults initial later) program old now (Err stopped)
@@ -118,8 +139,9 @@ module _ {F : Type 0} (text : F → Option Text) (faults : F → ℕ) (program :
           let P : AsmFault → Type 0 = λ f. PutsAll (pass_of text faults initial later) program old now (Err f) in
           subst P (sym is) (
             reads_so came next,
-            given_to_fault text faults initial here reader program.map Definitions so.source stands.lines so.read unended later reader'
-                came next,
+            gives_so came
+                (given_to_fault text faults initial here reader program.map Definitions so.source stands.lines so.read unended later reader'
+                came next),
           )
 
       module _ (line : SourceLine) (next : ReadsNext (position text faults here reader) (position text faults later reader') (Ok (Some line)))
@@ -151,10 +173,6 @@ module _ {F : Type 0} (text : F → Option Text) (faults : F → ℕ) (program :
           stops = s.stops;
         }
 
-        gives_in_line : (Stop : List Write → Type 0) → StopsAmong Stop program all
-            → GivesToStop (pass_of text faults initial later) program.map Definitions
-        gives_in_line Stop s = extents.GivesToStop.InLine all s.lines s.stage s.live given_more
-
         too_long : length all ≡ most_lines + 1 → ⊥
         too_long many = let few = few_read text faults initial later reader' all more in omega (arith, many, few)
 
@@ -163,10 +181,12 @@ module _ {F : Type 0} (text : F → Option Text) (faults : F → ℕ) (program :
         fails_so fault.Read s = absurd s
         fails_so (fault.Write output) s = (
           (begun_more.reading, begun_more.reads, among (StopsIn output old new) s),
-          gives_in_line (StopsIn output old new) s,
+          extents.StopsWriting.InLine all s given_more,
         )
-        fails_so fault.NoMemory s =
-            ((begun_more.reading, begun_more.reads, among (StopsBetween old new) s), gives_in_line (StopsBetween old new) s)
+        fails_so fault.NoMemory s = (
+          (begun_more.reading, begun_more.reads, among (StopsBetween old new) (stops_between program all old new s)),
+          extents.LacksWriting.InLine all s given_more,
+        )
         fails_so fault.TooMuchSource s = absurd (too_long s.too_many)
         fails_so stopped s = (
           (
@@ -208,13 +228,6 @@ module _ {F : Type 0} (text : F → Option Text) (faults : F → ℕ) (program :
         given_to_end program.map Definitions taken.source ends.lines ends.stage ends.live second.has_ended ends.ended ends.needs pass
         second.has_ended refl taken.given
 
-    -- if an output failed or memory was refused at the end, the feeds were read as far as `GivesToStop` says
-    gives_to_stop : (has_ended : Bool) → second.has_ended ≡ has_ended → HaveGiven pass taken.source has_ended
-        → GivesToStop pass program.map Definitions
-    gives_to_stop true is given = extents.GivesToStop.InLine taken.source ends.lines ends.stage ends.live given
-    gives_to_stop false is given = extents.GivesToStop.AfterAll taken.source ends.lines
-        (unended_at program.map Definitions taken.source ends.lines ends.stage ends.live second.has_ended ends.ended ends.needs is) given
-
     ends_so : (result : Result AsmDone AsmFault) → Writes old new (program_writes program ends.lines (ended_with second)) result
         → IfOk result (λ done. done.flagged ≡ flagged_count program ends.lines second.has_ended)
         → OnOk result (AllFit (object_contents program.rows (pieces_in program.map ends.lines)))
@@ -237,11 +250,11 @@ module _ {F : Type 0} (text : F → Option Text) (faults : F → ℕ) (program :
     )
     ends_so (Err (fault.Write output)) stops count fit flushed = (
       (taken.reading, taken.reads, among_all (StopsIn output old new) stops),
-      gives_to_stop second.has_ended refl taken.given,
+      extents.StopsWriting.AtEnd taken.reading ends.lines (ended_with second) taken.reads all_ends gives_to_end stops,
     )
     ends_so (Err fault.NoMemory) stops count fit flushed = (
       (taken.reading, taken.reads, among_all (StopsBetween old new) stops),
-      gives_to_stop second.has_ended refl taken.given,
+      extents.LacksWriting.AtEnd taken.reading ends.lines (ended_with second) taken.reads all_ends gives_to_end stops,
     )
     ends_so (Err other) stops count fit flushed = absurd stops
 

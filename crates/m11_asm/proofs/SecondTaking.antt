@@ -1,8 +1,8 @@
 -- The second pass on one line of the source: it places and writes the live lines that follow from it, one by one.
-use Rattle.std.proofs.Common.{◌≡◌, ℕ, Bool, true, false, List, [], ◌∷◌, ◌++◌, length, Result, Ok, Err, IsErrAnd, sym, subst, append-nil}
+use Rattle.std.proofs.Common.{◌≡◌, ℕ, Bool, true, false, List, [], ◌∷◌, ◌++◌, length, Result, Ok, Err, IsErrAnd, sym, subst}
 use Rattle.m11_asm_faults.specs.declared.fault.AsmFault.{AsmFault}
 use Rattle.m11_asm_faults.specs.declared.fault.AsmFault.TheVariants as fault
-use Rattle.m11_asm_outputs.specs.Outputs.{Gains, Stops, StopsBetween, assembly}
+use Rattle.m11_asm_outputs.specs.Outputs.{Gains, Stops, assembly}
 use Rattle.m11_base_writes.specs.Outputs.{Outputs, Write}
 use Rattle.m11_scan.specs.Line.{SourceLine}
 use Rattle.m11_obj.specs.declared.pieces.PieceContent.{PieceContent}
@@ -20,6 +20,7 @@ use Rattle.m11_asm_rules.specs.Meanings.{Map}
 use Rattle.m11_asm_lines.specs.declared.counting.Counting.{Counting}
 use Rattle.m11_base_writes.proofs.Writing.{gains_then, stops_after}
 use Rattle.m11_asm.specs.Program.{Program}
+use Rattle.m11_asm.specs.Second as second
 use Rattle.m11_asm.specs.Second.{SecondFails, PlacesLeft, Wrote}
 use Rattle.m11_asm.specs.LinesDone.{AllDone}
 use Rattle.m11_asm.specs.Writing.{Writing, WritingAfter}
@@ -47,15 +48,6 @@ module _ (turn : TurnsSo) (program : Program) (source : List SourceLine) (first 
       → Turns program.map old new (live_in placed.live) (SaysPlaced program.map placed new.emission) result
   turned_so result turned =
       let P : Map → Type 0 = λ m. Turns m old new (live_in placed.live) (SaysPlaced m placed new.emission) result in subst P same turned
-
-  -- the pass may stop between two writes after exactly the writes of the lines so far
-  all_between : StopsBetween first now (written program some.0)
-  all_between = record {
-    done = written program some.0;
-    more = [];
-    split = sym (append-nil (written program some.0));
-    gains = some.1.done.gains;
-  }
 
   module _ (came : Turn) (turned : Turns map_ old new (live_in placed.live) (SaysPlaced map_ placed new.emission) (Ok came)) where
     pub left_rests : came ≡ NeedLine → AllDone program.map Definitions (Wrote program first now writing) source new false
@@ -114,7 +106,7 @@ module _ (turn : TurnsSo) (program : Program) (source : List SourceLine) (first 
         stops_so (fault.Write output) stops =
             record { lines = some.0 ++ one ∷ []; stage = new.unfolder.stage; live = here.stands.lines_are; stops = stops }
         stops_so fault.NoMemory stops =
-            record { lines = some.0 ++ one ∷ []; stage = new.unfolder.stage; live = here.stands.lines_are; stops = stops }
+            second.StopsForMemory.InLine some.0 one new.unfolder.stage here.may_lack here.stands.lines_are stops
         stops_so other stops = absurd stops
 
         pub stops_there : (stopped : AsmFault) (result : Result Bool AsmFault)
@@ -139,8 +131,7 @@ module _ (turn : TurnsSo) (program : Program) (source : List SourceLine) (first 
 
     fails_so : (stopped : AsmFault) → Refused program.map Definitions source some.0 stopped
         → SecondFails program source first now stopped
-    fails_so fault.NoMemory r =
-        record { lines = some.0; stage = old.unfolder.stage; live = some.1.stands.lines_are; stops = all_between }
+    fails_so fault.NoMemory r = second.StopsForMemory.BeforeLine some.0 r some.1.done.gains
     fails_so fault.Read r = absurd r
     fails_so (fault.Write output) r = absurd r
     fails_so fault.TooMuchSource r = absurd r

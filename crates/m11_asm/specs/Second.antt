@@ -8,7 +8,7 @@ use Rattle.m11_scan.specs.Lines.{most_lines}
 use Rattle.m11_unfold_rules.specs.Stages.{Stage}
 use Rattle.m11_asm_rules.specs.Meanings.{Map}
 use Rattle.m11_asm_passes.specs.Lines.{NumberedLine, PassLines}
-use Rattle.m11_asm_passes.specs.Reaching.{Exceeds}
+use Rattle.m11_asm_passes.specs.Reaching.{Exceeds, MayLackMemory}
 use Rattle.m11_asm_passes.specs.States.{PassState}
 use Rattle.m11_asm_lines.specs.declared.counting.Counting.TheVariants.{Definitions}
 use Rattle.m11_asm_outputs.specs.Object.{AllFit, object_contents}
@@ -58,6 +58,15 @@ pub record StopsAtLimit (program : Program) (source : List SourceLine) (first no
   pub exceeds : Exceeds program.map Definitions source lines stopped
   pub gains : Gains first now (written program lines)
 
+-- memory is refused to the pass after these live lines of the source: before the next one is placed, and exactly the writes of these lines
+-- were made; or between two writes of the next one. No limit is exceeded up to there
+pub data StopsForMemory (program : Program) (source : List SourceLine) (first now : Outputs) : Type 0 where
+  BeforeLine : (lines : List NumberedLine) → MayLackMemory program.map Definitions source lines
+      → Gains first now (written program lines) → StopsForMemory program source first now
+  InLine : (lines : List NumberedLine) (next : NumberedLine) (stage : Stage) → MayLackMemory program.map Definitions source lines
+      → PassLines program.map Definitions source (lines ++ next ∷ []) stage
+      → StopsBetween first now (written program (lines ++ next ∷ [])) → StopsForMemory program source first now
+
 -- the source has one line too many, and exactly the writes of the lines before it were made
 pub record StopsAtLine (program : Program) (source : List SourceLine) (first now : Outputs) : Type 0 where
   pub too_many : length source ≡ most_lines + 1
@@ -66,7 +75,7 @@ pub record StopsAtLine (program : Program) (source : List SourceLine) (first now
 abbrev pub SecondFails : Program → List SourceLine → Outputs → Outputs → AsmFault → Type 0
 SecondFails program source first now fault.Read = ⊥
 SecondFails program source first now (fault.Write output) = StopsAmong (StopsIn output first now) program source
-SecondFails program source first now fault.NoMemory = StopsAmong (StopsBetween first now) program source
+SecondFails program source first now fault.NoMemory = StopsForMemory program source first now
 SecondFails program source first now fault.TooMuchSource = StopsAtLine program source first now
 SecondFails program source first now stopped = StopsAtLimit program source first now stopped
 

@@ -16,7 +16,7 @@ SecondPassDone pass program old new second = SourceRead pass (λ source. SecondA
 
 -- the second pass has this result: it writes what `ReadsSecond` says, and reads its feeds as far as `SecondGives` says
 abbrev pub PutsAll : {F : Type 0} → Pass F → Program → Outputs → Outputs → Result AsmDone AsmFault → Type 0
-PutsAll pass program old new result = ReadsSecond pass program old new result × SecondGives pass program result
+PutsAll pass program old new result = ReadsSecond pass program old new result × SecondGives pass program old new result
 
 abbrev pub PutsLines : {F : Type 0} → Pass F → Program → Outputs → Outputs → SecondState → Result (Unit {0}) AsmFault → Type 0
 PutsLines pass program old new second (Ok done) = SecondPassDone pass program old new second

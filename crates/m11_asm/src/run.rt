@@ -43,7 +43,9 @@ pub fn asm_run<F: Feed, S: Sink, T: Sink, U: Sink>(
         (pass_of F.text F.faults first.old first.new) (pass_of F.text F.faults second.old second.new)
         (outputs_of S.Sink T.Sink U.Sink object.old listing.old messages.old)
         (outputs_of S.Sink T.Sink U.Sink object.new listing.new messages.new) result }
-    ensures gives { AsmGives (pass_of F.text F.faults first.old first.new) (pass_of F.text F.faults second.old second.new) result }
+    ensures gives { AsmGives (pass_of F.text F.faults first.old first.new) (pass_of F.text F.faults second.old second.new)
+        (outputs_of S.Sink T.Sink U.Sink object.old listing.old messages.old)
+        (outputs_of S.Sink T.Sink U.Sink object.new listing.new messages.new) result }
 {
     asm_run_with_seed(
         alloc,
@@ -74,7 +76,9 @@ pub fn asm_run_with_seed<F: Feed, S: Sink, T: Sink, U: Sink>(
         (pass_of F.text F.faults first.old first.new) (pass_of F.text F.faults second.old second.new)
         (outputs_of S.Sink T.Sink U.Sink object.old listing.old messages.old)
         (outputs_of S.Sink T.Sink U.Sink object.new listing.new messages.new) result }
-    ensures gives { AsmGives (pass_of F.text F.faults first.old first.new) (pass_of F.text F.faults second.old second.new) result }
+    ensures gives { AsmGives (pass_of F.text F.faults first.old first.new) (pass_of F.text F.faults second.old second.new)
+        (outputs_of S.Sink T.Sink U.Sink object.old listing.old messages.old)
+        (outputs_of S.Sink T.Sink U.Sink object.new listing.new messages.new) result }
 {
     let symbols = read_first(alloc, seed, first)?;
     read_second(alloc, second, symbols, object, listing, messages)

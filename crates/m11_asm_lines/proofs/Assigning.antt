@@ -17,7 +17,7 @@ use Rattle.m11_asm_lines.specs.Assigned.{with_assignment}
 abbrev pub valued : Quantity → Bool → Definition
 valued one is_firm = record { standing = standing_of one; is_firm = is_firm; label = None }
 
-assigned_by : (map : Map) (table : Table) (tokens : Expression) (name : Option Name) (is_global : Bool)
+pub assigned_by : (map : Map) (table : Table) (tokens : Expression) (name : Option Name) (is_global : Bool)
     → with_assignment name is_global (assigned map table tokens) table ≡ changed map (assignment name is_global tokens) table
 assigned_by map table tokens (Some name) is_global = refl
 assigned_by map table tokens None is_global = refl

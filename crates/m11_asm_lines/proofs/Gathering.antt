@@ -10,10 +10,10 @@ use Rattle.m11_base.specs.Rad50.{Name}
 use Rattle.m11_asm_rules.specs.Elements.{names_of, texts_of}
 use Rattle.m11_scan_statements.specs.declared.spans.Span.{Span}
 use Rattle.m11_asm_rules.specs.Limits.{is_counted, most_names, with_uses, with_symbol}
-use Rattle.m11_asm_rules.specs.SymbolUses.{SymbolUse, defined, symbol_use, named}
+use Rattle.m11_asm_rules.specs.SymbolUses.{SymbolUse, defined, label_uses, symbol_use, named}
 use Rattle.m11_asm_rules.specs.declared.meanings.Context.{Context}
 use Rattle.m11_asm_lines.specs.Faults.{Refuses}
-use Rattle.m11_asm_lines.specs.Labels.{FitsUpToLabel}
+use Rattle.m11_asm_lines.specs.Labels.{FitsUpToName, HasName}
 use Rattle.m11_asm_lines.specs.UsedSymbols.{Adds, UsedNames, in_context, is_register, names_referred, with_name_used, registers_used, with_all, with_name, with_reference, with_register}
 use Rattle.m11_scan_statements.specs.declared.labels.Label.{Label}
 use Rattle.m11_scan_expressions.specs.declared.names.Symbol.{Symbol}
@@ -176,33 +176,33 @@ failed_symbol context (found ∷ symbols) symbol other old new fault result some
 
 -- ---- memory is refused at a label, and the names up to that label are within the limit
 
-pub first_label : (symbol_uses : Label → List SymbolUse) (labels : List Label) (other : Label) (old : UsedNames) → 1 ≤ length labels
-    → length (with_all (symbol_uses (get_or labels 0 other)) old).names ≤ most_names
-    → FitsUpToLabel labels (λ some. length (with_all (flat_map symbol_uses some) old).names ≤ most_names)
-first_label symbol_uses [] other old some fits = absurd (none_first some)
-first_label symbol_uses (label ∷ others) other old some fits =
+pub first_label : (line : Bytes) (labels : List Label) (other : Label) (old : UsedNames) → 1 ≤ length labels
+    → HasName line (get_or labels 0 other)
+    → length (with_all (label_uses line (get_or labels 0 other)) old).names ≤ most_names → FitsUpToName line labels old
+first_label line [] other old some named fits = absurd (none_first some)
+first_label line (label ∷ others) other old some named fits =
     let P : UsedNames → Type 0 = λ g. length g.names ≤ most_names in
     record {
       done = [];
       label = label;
       rest = others;
       are = refl;
-      fits = subst P (sym (all_joined (symbol_uses label) [] old)) fits;
+      grows = named;
+      fits = subst P (sym (all_joined (label_uses line label) [] old)) fits;
     }
 
-pub later_label : (symbol_uses : Label → List SymbolUse) (labels : List Label) (other : Label) (old middle : UsedNames) → 1 ≤ length labels
-    → middle ≡ with_all (symbol_uses (get_or labels 0 other)) old
-    → FitsUpToLabel (take (length labels - 1) (drop 1 labels))
-    (λ some. length (with_all (flat_map symbol_uses some) middle).names ≤ most_names)
-    → FitsUpToLabel labels (λ some. length (with_all (flat_map symbol_uses some) old).names ≤ most_names)
-later_label symbol_uses [] other old middle some first later = absurd (none_first some)
-later_label symbol_uses (label ∷ others) other old middle some first later =
+pub later_label : (line : Bytes) (labels : List Label) (other : Label) (old middle : UsedNames) → 1 ≤ length labels
+    → middle ≡ with_all (label_uses line (get_or labels 0 other)) old → FitsUpToName line (take (length labels - 1) (drop 1 labels)) middle
+    → FitsUpToName line labels old
+later_label line [] other old middle some first later = absurd (none_first some)
+later_label line (label ∷ others) other old middle some first later =
     let P : UsedNames → Type 0 = λ g. length g.names ≤ most_names in
-    let rest : List SymbolUse = flat_map symbol_uses (later.done ++ later.label ∷ []) in
+    let rest : List SymbolUse = flat_map (label_uses line) (later.done ++ later.label ∷ []) in
     record {
       done = label ∷ later.done;
       label = later.label;
       rest = later.rest;
       are = ap (λ (ls : List Label). label ∷ ls) (sym (others_all label others) ∙ later.are);
-      fits = subst P (ap (with_all rest) first ∙ sym (all_joined (symbol_uses label) rest old)) later.fits;
+      grows = later.grows;
+      fits = subst P (ap (with_all rest) first ∙ sym (all_joined (label_uses line label) rest old)) later.fits;
     }

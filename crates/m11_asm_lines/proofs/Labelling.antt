@@ -19,7 +19,7 @@ use Rattle.m11_asm_rules.specs.declared.definitions.Key.TheVariants.{Named, Numb
 use Rattle.m11_asm_rules.proofs.LastDefinitions.{no_symbols_fewer, none_fewer}
 use Rattle.m11_asm_lines.proofs.Room.{AtLeast, as_many, refuses_more}
 use Rattle.m11_asm_lines.specs.Faults.{HasTooMany}
-use Rattle.m11_asm_lines.specs.Labels.{FitsUpToLabel}
+use Rattle.m11_asm_lines.specs.Labels.{Defines, FitsUpToDefined}
 use Rattle.m11_asm_lines.specs.Moved.{moved_flags, moved_kind}
 
 -- ---- after labels a table defines at least as many names and local symbols as before
@@ -114,21 +114,21 @@ first_refused line table (label ∷ others) other fault some refuses =
 -- ---- memory is refused at a label, and the names and local symbols up to that label are within the limits
 
 pub first_fits : (line : Bytes) (table : Table) (labels : List Label) (other : Label) → 1 ≤ length labels
-    → has_too_many (with_label line table (get_or labels 0 other)) ≡ false
-    → FitsUpToLabel labels (λ some. has_too_many (with_labels line table some) ≡ false)
-first_fits line table [] other some fits = absurd (none_first some)
-first_fits line table (label ∷ others) other some fits =
-    record { done = []; label = label; rest = others; are = refl; fits = fits }
+    → Defines (get_or labels 0 other) → has_too_many (with_label line table (get_or labels 0 other)) ≡ false
+    → FitsUpToDefined line labels table
+first_fits line table [] other some defines fits = absurd (none_first some)
+first_fits line table (label ∷ others) other some defines fits =
+    record { done = []; label = label; rest = others; are = refl; grows = defines; fits = fits }
 
 pub later_fits : (line : Bytes) (table : Table) (labels : List Label) (other : Label) → 1 ≤ length labels
-    → FitsUpToLabel (take (length labels - 1) (drop 1 labels))
-    (λ some. has_too_many (with_labels line (with_label line table (get_or labels 0 other)) some) ≡ false)
-    → FitsUpToLabel labels (λ some. has_too_many (with_labels line table some) ≡ false)
+    → FitsUpToDefined line (take (length labels - 1) (drop 1 labels)) (with_label line table (get_or labels 0 other))
+    → FitsUpToDefined line labels table
 later_fits line table [] other some later = absurd (none_first some)
 later_fits line table (label ∷ others) other some later = record {
   done = label ∷ later.done;
   label = later.label;
   rest = later.rest;
   are = ap (λ (ls : List Label). label ∷ ls) (sym (others_all label others) ∙ later.are);
+  grows = later.grows;
   fits = later.fits;
 }

@@ -1,17 +1,20 @@
 -- Whether a table has too many names or local symbols, by what a pass counts.
-use Rattle.std.proofs.Common.{◌≡◌, ◌∙◌, ◌<◌, ◌≤◌, ℕ, ◌+◌, ◌||◌, Bool, true, false, Result, Ok, Err, IfErr, IsErrAnd, refl, sym, ap, subst, arith}
+use Rattle.std.proofs.Common.{◌≡◌, ◌∙◌, ◌<◌, ◌≤◌, ℕ, ◌+◌, ◌||◌, Bool, true, false, length, Result, Ok, Err, IfErr, IsErrAnd, refl, sym, ap, subst, arith, true≢false}
 use Rattle.std.proofs.lemmas.Bool.Decides.{nat_tests}
-use Rattle.std.specs.Prelude.{nat_lt}
+use Rattle.std.specs.Prelude.{nat_lt, not, ◌&&◌, if◌then◌else◌, is_some, List, Option, Some, None}
 use Rattle.m11_asm_faults.specs.declared.fault.AsmFault.{AsmFault}
 use Rattle.m11_asm_faults.specs.declared.fault.AsmFault.TheVariants.{TooManySymbols, TooManySections, NoMemory}
 use Rattle.m11_base.specs.Rad50.{Name}
-use Rattle.m11_asm_rules.specs.Labels.{with_definition}
-use Rattle.m11_asm_rules.specs.Limits.{has_too_many, local_count, most_defined_names, most_local_symbols, name_count}
-use Rattle.m11_asm_rules.specs.Definitions.{is_defined}
+use Rattle.m11_asm_rules.specs.Labels.{global_if, with_definition, with_doubly_defined}
+use Rattle.m11_asm_rules.specs.Limits.{has_too_many, local_count, most_defined_names, most_local_symbols, most_sections, name_count}
+use Rattle.m11_asm_rules.specs.Changes.{with_value}
+use Rattle.m11_asm_rules.specs.Definitions.{is_defined, is_labelled, is_of_label, last_definition}
 use Rattle.m11_asm_rules.specs.Tables.{Table}
 use Rattle.m11_asm_rules.specs.declared.definitions.Definition.{Definition}
+use Rattle.m11_asm_rules.specs.declared.sections.Section.{Section}
 use Rattle.m11_asm_rules.specs.declared.definitions.Key.TheVariants.{Named, Numbered}
 use Rattle.m11_asm_rules.proofs.LastDefinitions.{entry_fits, new_counts, new_symbol_counts}
+use Rattle.m11_asm_lines.specs.Assigned.{with_assignment}
 use Rattle.m11_asm_lines.specs.Faults.{HasTooMany, Overfills, OverfillsFirst}
 
 -- ---- by numbers
@@ -72,11 +75,23 @@ refuses_more NoMemory one other more refuses = tt
 refuses_more other_fault one other more refuses = refuses
 
 -- a fault that refuses definitions refuses a change with the same table after it
-pub overfills : (fault : AsmFault) (after : Table) → HasTooMany fault after → Overfills fault after
-overfills TooManySymbols after refuses = refuses
-overfills TooManySections after refuses = absurd refuses
-overfills NoMemory after refuses = tt
-overfills other after refuses = refuses
+pub overfills : (fault : AsmFault) (after : Table) → length after.sections ≤ most_sections → OverfillsFirst fault after → Overfills fault after
+overfills TooManySymbols after sections refuses = refuses.overfills
+overfills TooManySections after sections refuses = absurd refuses.overfills
+overfills NoMemory after sections refuses = (refuses.limits_first refl, sections)
+overfills other after sections refuses = absurd refuses.overfills
+
+-- memory may be refused for a change after which the table is within its limits
+pub lacks : (after : Table) → name_count after ≤ most_defined_names → local_count after ≤ most_local_symbols
+    → length after.sections ≤ most_sections → Overfills NoMemory after
+lacks after names symbols sections = (few_of_both after names symbols, sections)
+
+pub lacks_so : {A : Type 0} (result : Result A AsmFault) (after : Table) → name_count after ≤ most_defined_names
+    → local_count after ≤ most_local_symbols → length after.sections ≤ most_sections
+    → IsErrAnd result (λ fault. fault ≡ NoMemory) → IfErr result (λ fault. Overfills fault after)
+lacks_so (Ok value) after names symbols sections is = tt
+lacks_so (Err fault) after names symbols sections is =
+    let P : AsmFault → Type 0 = λ f. Overfills f after in subst P (sym is) (lacks after names symbols sections)
 
 -- ---- a definition for which there is no room, or for which there is room
 
@@ -88,6 +103,24 @@ full after many = record { overfills = many; limits_first = λ none. absurd (oth
 
 pub without_memory : (after : Table) → has_too_many after ≡ false → OverfillsFirst NoMemory after
 without_memory after few = record { overfills = tt; limits_first = λ none. few }
+
+-- a name that is new when all names are defined is one too many, and only such a name
+pub full_so : (name : Name) (definition : Definition) (table : Table) → name_count table ≤ most_defined_names
+    → local_count table ≤ most_local_symbols → most_defined_names ≤ name_count table → (is_known : Bool)
+    → is_known ≡ is_defined (Named name) table.definitions → not is_known ≡ has_too_many (with_definition (Named name) definition table)
+full_so name definition table names symbols many true known =
+    sym (few_of_both (with_definition (Named name) definition table)
+    (entry_fits name definition table.definitions.names most_defined_names (λ new. absurd (true≢false (known ∙ new))) names) symbols)
+full_so name definition table names symbols many false known =
+    let more : name_count (with_definition (Named name) definition table) ≡ name_count table + 1
+    = new_counts name definition table (sym known) in
+    sym (many_names (with_definition (Named name) definition table) (omega (arith, more, many)))
+
+pub room_so : (name : Name) (definition : Definition) (table : Table) → local_count table ≤ most_local_symbols
+    → name_count table < most_defined_names → false ≡ has_too_many (with_definition (Named name) definition table)
+room_so name definition table symbols few =
+    sym (few_of_both (with_definition (Named name) definition table)
+    (entry_fits name definition table.definitions.names most_defined_names (λ new. few) (omega (arith, few))) symbols)
 
 pub name_full : (name : Name) (definition : Definition) (table : Table) → is_defined (Named name) table.definitions ≡ false
     → most_defined_names ≤ name_count table → OverfillsFirst TooManySymbols (with_definition (Named name) definition table)
@@ -125,3 +158,70 @@ pub overfills_first : {A : Type 0} (result : Result A AsmFault) (after : Table) 
     → IsErrAnd result (λ fault. fault ≡ NoMemory) → IfErr result (λ fault. OverfillsFirst fault after)
 overfills_first (Ok value) after none is = tt
 overfills_first (Err fault) after none is = let P : AsmFault → Type 0 = λ f. OverfillsFirst f after in subst P (sym is) none
+
+-- ---- a value that is assigned to a name
+
+of_label_is_known : (found : Option Definition) → is_of_label found ≡ true → is_some found ≡ true
+of_label_is_known (Some definition) is = refl
+of_label_is_known None is = absurd (true≢false (sym is))
+
+labelled_is_known : (name : Name) (table : Table) → is_labelled (Named name) table.definitions ≡ true
+    → is_defined (Named name) table.definitions ≡ true
+labelled_is_known name table is = of_label_is_known (last_definition (Named name) table.definitions) is
+
+module _ (name : Name) (definition : Definition) (table : Table) where
+  abbrev defined : Table
+  defined = with_definition (Named name) definition table
+
+  -- the table after the assignment, if the name's last definition is a label's, and if not
+  abbrev after : Bool → Bool → Table
+  after is_global labelled =
+      global_if (is_global && not labelled) name (if labelled then with_doubly_defined (Named name) table else defined)
+
+  module _ (names : name_count table ≤ most_defined_names) (symbols : local_count table ≤ most_local_symbols) where
+    known_fits : is_defined (Named name) table.definitions ≡ true → has_too_many defined ≡ has_too_many table
+    known_fits known =
+        few_of_both defined
+        (entry_fits name definition table.definitions.names most_defined_names (λ new. absurd (true≢false (sym known ∙ new))) names) symbols
+        ∙ sym (few_of_both table names symbols)
+
+    counts_by : (is_global labelled : Bool) → (labelled ≡ true → is_defined (Named name) table.definitions ≡ true)
+        → has_too_many defined ≡ has_too_many (after is_global labelled)
+    counts_by true true known = known_fits (known refl)
+    counts_by false true known = known_fits (known refl)
+    counts_by true false known = refl
+    counts_by false false known = refl
+
+    -- an assignment defines as many names as a definition of the name
+    pub value_counts : (is_global : Bool) → has_too_many defined ≡ has_too_many (with_value name is_global definition table)
+    value_counts is_global = counts_by is_global (is_labelled (Named name) table.definitions) (labelled_is_known name table)
+
+  -- an assignment selects no section
+  sections_by : (is_global labelled : Bool) → (after is_global labelled).sections ≡ table.sections
+  sections_by true true = refl
+  sections_by true false = refl
+  sections_by false true = refl
+  sections_by false false = refl
+
+-- memory may be refused for an assignment for which there is room
+pub assigned_lacks : (name : Option Name) (is_global : Bool) (definition : Definition) (table : Table)
+    → has_too_many (with_assignment name is_global definition table) ≡ false → length table.sections ≤ most_sections
+    → Overfills NoMemory (with_assignment name is_global definition table)
+assigned_lacks (Some name) is_global definition table few sections =
+    let S : List Section → Type 0 = λ s. length s ≤ most_sections in
+    (few, subst S (sym (sections_by name definition table is_global (is_labelled (Named name) table.definitions))) sections)
+assigned_lacks None is_global definition table few sections = (few, sections)
+
+-- a new name for which there is room can be defined
+pub new_room : (name : Name) (definition : Definition) (table : Table)
+    → has_too_many (with_definition (Named name) definition table) ≡ false → is_defined (Named name) table.definitions ≡ false
+    → name_count table < most_defined_names
+new_room name definition table few new =
+    let more : name_count (with_definition (Named name) definition table) ≡ name_count table + 1 = new_counts name definition table new in
+    by (nat_lt (name_count table) most_defined_names) refl more
+  where
+    by : (is_less : Bool) → nat_lt (name_count table) most_defined_names ≡ is_less
+        → name_count (with_definition (Named name) definition table) ≡ name_count table + 1 → name_count table < most_defined_names
+    by true is more = grind (arith, nat_tests, is)
+    by false is more =
+        absurd (true≢false (sym (many_names (with_definition (Named name) definition table) (grind (arith, nat_tests, is, more))) ∙ few))

@@ -1,6 +1,6 @@
 -- The code's actions and operations, which it reads from the text after the labels of a line, as the definitions represent them. (MACRO-11
 -- Language Reference Manual, "Operator field".)
-use Rattle.std.specs.Prelude.{◌≡◌, Bool, true}
+use Rattle.std.specs.Prelude.{◌≡◌, Bool, true, false}
 use Rattle.m11_base.specs.Devices.{Bytes}
 use Rattle.m11_scan.specs.Views.{bits_of}
 use Rattle.m11_asm_operands.specs.ListedOperations as operations
@@ -54,6 +54,11 @@ action_fields table line other = no_fields 0
 pub record IsRead (table : Table) (line : Bytes) (operation : Operation) : Type 0 where
   pub listed : is_listed operation.action ≡ true
   pub fields : fields_model line operation.fields ≡ action_fields table line operation.action
+
+-- whether an action selects a section
+abbrev pub selects : actions.Action → Bool
+selects (actions.Select name bits attributes) = true
+selects other = false
 
 -- ---- the table after an action, from the table after the labels of its line
 

@@ -1,5 +1,5 @@
 -- The meaning of a fault: a limit is exceeded, or memory was refused. (This project's own.)
-use Rattle.std.specs.Prelude.{◌≡◌, ◌<◌, true, false, length}
+use Rattle.std.specs.Prelude.{◌≡◌, ◌<◌, ◌≤◌, true, false, length}
 use Rattle.m11_asm_faults.specs.declared.fault.AsmFault.{AsmFault}
 use Rattle.m11_asm_faults.specs.declared.fault.AsmFault.TheVariants.{TooManySymbols, TooManySections, NoMemory}
 use Rattle.m11_asm_rules.specs.Limits.{has_too_many, most_sections}
@@ -13,9 +13,13 @@ Refuses TooManySections symbols sections = sections
 Refuses NoMemory symbols sections = Unit {0}
 Refuses fault symbols sections = ⊥
 
--- a change is refused: the table after it would have too many names, local symbols or sections, or memory is refused
+-- a change is refused: the table after it would have too many names, local symbols or sections; or memory is refused, and the table
+-- after it would exceed none of these limits
 abbrev pub Overfills : AsmFault → Table → Type 0
-Overfills fault after = Refuses fault (has_too_many after ≡ true) (most_sections < length after.sections)
+Overfills TooManySymbols after = has_too_many after ≡ true
+Overfills TooManySections after = most_sections < length after.sections
+Overfills NoMemory after = (has_too_many after ≡ false) × (length after.sections ≤ most_sections)
+Overfills fault after = ⊥
 
 -- definitions are refused: the table after them would have too many names or local symbols, or memory is refused
 abbrev pub HasTooMany : AsmFault → Table → Type 0

@@ -1,6 +1,6 @@
 //! What an assignment changes, and what a listing shows of it. (MACRO-11 Language Reference Manual, "Direct assignment statements".)
 
-ghost use Rattle.std.specs.Prelude.{◌≡◌, IfOk, IfErr};
+ghost use Rattle.std.specs.Prelude.{◌≡◌, Bool, false, IfOk, IfErr};
 ghost use Rattle.std.specs.Option.{option_to_list};
 ghost use Rattle.m11_scan_expressions.specs.Expressions.{symbols, value};
 ghost use Rattle.m11_scan_expressions.specs.Tokens.{expression_of};
@@ -9,8 +9,10 @@ ghost use Rattle.m11_asm_rules.specs.Assignments as assignments;
 ghost use Rattle.m11_asm_lines.specs.Actions.{after_action};
 ghost use Rattle.m11_asm_rules.specs.Actions.{Assign};
 ghost use Rattle.m11_asm_rules.specs.Items.{action_items};
+ghost use Rattle.m11_asm_rules.specs.Limits.{has_too_many};
 ghost use Rattle.m11_asm_rules.specs.Meanings.{known_at};
 ghost use Rattle.m11_asm_rules.specs.Tables.{location};
+ghost use Rattle.m11_asm_rules.specs.declared.definitions.Definition.{Definition as AnyDefinition};
 ghost use Rattle.m11_asm_rules.specs.declared.meanings.Context.TheVariants.{LocalOnly};
 ghost use Rattle.m11_asm_lines.specs.Assigned.{with_assignment};
 ghost use Rattle.m11_asm_lines.specs.Faults.{Overfills};
@@ -45,10 +47,45 @@ impl Pass {
         ensures refuses { IfErr result
             (λ fault. Overfills fault (after_action map.now line.now.text (Assign name is_global (expression_of line.now.text place)) self.old)) }
     {
+        // a limit is told before memory is asked for to find the value
+        if self.is_full_for(&name) {
+            return Err(AsmFault::TooManySymbols);
+        }
+        self.assign_found(map, line, name, is_global, place)
+    }
+
+    // Applies an assignment for which there is room, with the results of `apply_assignment`.
+    fn assign_found(
+        &mut self,
+        map: &Map<'_>,
+        line: &Line,
+        name: Option<Name>,
+        is_global: bool,
+        place: Expr,
+    ) -> Result<Option<Item>, AsmFault>
+        requires { (definition : AnyDefinition) → has_too_many (with_assignment name is_global definition self.old) ≡ false }
+        ensures changes { IfOk result (λ _. self.new ≡ after_action map.now line.now.text (Assign name is_global (expression_of line.now.text place)) self.old) }
+        ensures shows { IfOk result
+            (λ item. option_to_list item ≡ action_items map.now self.old (Assign name is_global (expression_of line.now.text place))) }
+        ensures refuses { IfErr result
+            (λ fault. Overfills fault (after_action map.now line.now.text (Assign name is_global (expression_of line.now.text place)) self.old)) }
+    {
+        self.counts_are_within_the_limits();
         let assigned = assigned_value(self.alloc, map, &self.table, line, place)?;
         let definition = definition_of(&assigned.value, assigned.is_firm);
         self.assign_if(name, is_global, definition)?;
         Ok(value_item(assigned.value))
+    }
+
+    // Whether a definition can't be assigned to the text before the `=`, since one name too many would be defined.
+    fn is_full_for(&self, name: &Option<Name>) -> bool
+        ensures { (is_global : Bool) (definition : AnyDefinition) → result ≡ has_too_many (with_assignment name.now is_global definition self.now) }
+    {
+        self.counts_are_within_the_limits();
+        match name {
+            Some(name) => self.lacks_room(*name),
+            None => false,
+        }
     }
 
     // Assigns a definition to the text before the `=`, if that is a name. Errors: `TooManySymbols` and `NoMemory`.

@@ -121,6 +121,7 @@ impl Pass {
         ensures refuses { (map : LineMap) → IfErr result
             (λ fault. Overfills fault (after_action map line.now.text (setting_model line.now.text names.now setting) self.old)) }
     {
+        self.counts_are_within_the_limits();
         match setting {
             Setting::Select(name, attributes) => {
                 self.select(name, with_attributes(attributes, line, names).bits())?;

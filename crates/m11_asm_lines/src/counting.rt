@@ -5,8 +5,7 @@ ghost use Rattle.std.specs.List.{flat_map};
 ghost use Rattle.m11_asm_faults.specs.declared.fault.AsmFault.TheVariants.{NoMemory};
 ghost use Rattle.m11_asm_rules.specs.Limits.{most_names};
 ghost use Rattle.m11_asm_rules.specs.SymbolUses.{label_uses};
-ghost use Rattle.m11_asm_lines.specs.Counting.{Counts, used_names_in, names_counted, with_counted};
-ghost use Rattle.m11_asm_lines.specs.Labels.{FitsUpToLabel};
+ghost use Rattle.m11_asm_lines.specs.Counting.{Counts, FitsUpToCounted, used_names_in, names_counted};
 
 use crate::used_symbols::UsedSymbols;
 use m11_asm_faults::AsmFault;
@@ -41,8 +40,7 @@ impl Counting {
     #[inline(always)]
     pub fn add_labels(&mut self, line: &Line, labels: &[Label]) -> Result<(), AsmFault>
         ensures counts { Counts (flat_map (label_uses line.now.text) labels.now) self.old self.new result }
-        ensures limit_first { IfErr result (λ fault. fault ≡ NoMemory → FitsUpToLabel labels.now (λ some.
-            length (names_counted (with_counted (flat_map (label_uses line.now.text) some) self.old)) ≤ most_names)) }
+        ensures limit_first { IfErr result (λ fault. fault ≡ NoMemory → FitsUpToCounted line.now.text labels.now self.old) }
     {
         match self {
             Counting::SymbolUses(used_symbols) => used_symbols.add_labels(line, labels),

@@ -6,9 +6,8 @@ ghost use Rattle.m11_asm_faults.specs.declared.fault.AsmFault.TheVariants.{NoMem
 ghost use Rattle.m11_asm_rules.specs.Definitions.{is_defined};
 ghost use Rattle.m11_asm_rules.specs.Labels as spec;
 ghost use Rattle.m11_asm_rules.specs.Labels.{flag_M, kind_flags, key_flags, label_name, labels_flags, name_flags, with_key, with_label, with_labels, with_name};
-ghost use Rattle.m11_asm_rules.specs.Limits.{has_too_many};
 ghost use Rattle.m11_asm_lines.specs.Faults.{HasTooMany, OverfillsFirst};
-ghost use Rattle.m11_asm_lines.specs.Labels.{AreFlags, FitsUpToLabel};
+ghost use Rattle.m11_asm_lines.specs.Labels.{AreFlags, Defines, FitsUpToDefined};
 ghost use Rattle.m11_asm_lines.specs.Moved.{moved_flags, moved_key, moved_kind, moved_name};
 ghost use Rattle.m11_asm_rules.specs.declared.definitions.Key.TheVariants.{Named, Numbered};
 ghost use Rattle.m11_scan.specs.Views.{bits_of};
@@ -79,8 +78,7 @@ impl Pass {
         ensures flags { IfOk result (λ flags. AreFlags flags (labels_flags line.now.text self.old labels.now)
             (moved_flags map.now line.now.text self.old labels.now)) }
         ensures refuses { IfErr result (λ fault. HasTooMany fault (with_labels line.now.text self.old labels.now)) }
-        ensures limits_first { IfErr result (λ fault. fault ≡ NoMemory
-            → FitsUpToLabel labels.now (λ some. has_too_many (with_labels line.now.text self.old some) ≡ false)) }
+        ensures limits_first { IfErr result (λ fault. fault ≡ NoMemory → FitsUpToDefined line.now.text labels.now self.old) }
     {
         match labels {
             [] => Ok(LabelFlags::none()),
@@ -107,6 +105,7 @@ impl Pass {
         ensures flags { IfOk result (λ flags. AreFlags flags (kind_flags self.old (label_name line.now.text label.now) label.now.kind)
             (moved_kind map.now self.old (label_name line.now.text label.now) label.now.kind)) }
         ensures refuses { IfErr result (λ fault. OverfillsFirst fault (with_label line.now.text self.old label.now)) }
+        ensures defined { IfErr result (λ _. Defines label.now) }
     {
         match label.kind {
             LabelKind::Ordinary => {

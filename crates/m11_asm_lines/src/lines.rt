@@ -1,10 +1,10 @@
 //! What a line emits after its labels are defined, and its flags. (MACRO-11 Language Reference Manual, "Source program format".)
 
-ghost use Rattle.std.specs.Prelude.{◌≡◌, ◌≤◌, IfOk};
+ghost use Rattle.std.specs.Prelude.{◌≡◌, ◌≤◌, false, IfOk, IfErr};
 ghost use Rattle.m11_asm_rules.specs.Contents.{followed_by, nothing};
 ghost use Rattle.m11_asm_directives.specs.Settings.{setting_model};
 ghost use Rattle.m11_asm_rules.specs.Lines as spec;
-ghost use Rattle.m11_asm_lines.specs.Actions.{IsRead, action_in};
+ghost use Rattle.m11_asm_lines.specs.Actions.{IsRead, action_in, selects};
 ghost use Rattle.m11_asm_lines.specs.Lines.{flags_from};
 ghost use Rattle.m11_scan.specs.Views.{bits_of};
 
@@ -31,8 +31,9 @@ pub fn emit_action(
     operation: &Operation,
 ) -> Result<(), AllocError>
     requires { IsRead table.now line.now.text operation.now }
-    ensures { IfOk result (λ _. emission.new
+    ensures emits { IfOk result (λ _. emission.new
         ≡ followed_by emission.old (spec.emission_by map.now table.now line.now.text (action_in line.now.text operation.now))) }
+    ensures selects { IfErr result (λ _. selects (action_in line.now.text operation.now) ≡ false) }
 {
     match operation.action {
         Action::NoAction => emit_flags(emission, ErrorFlags::none()),
@@ -55,7 +56,8 @@ pub fn emit_action(
 
 // Emits nothing but flags.
 fn emit_flags(emission: &mut Emission, flags: ErrorFlags) -> Result<(), AllocError>
-    ensures { IfOk result (λ _. emission.new ≡ followed_by emission.old (nothing (bits_of flags))) }
+    ensures emits { IfOk result (λ _. emission.new ≡ followed_by emission.old (nothing (bits_of flags))) }
+    ensures never { IfErr result (λ _. ⊥) }
 {
     emission.add_flags(flags);
     Ok(())

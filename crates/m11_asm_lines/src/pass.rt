@@ -5,9 +5,10 @@ ghost use Rattle.m11_asm_faults.specs.declared.fault.AsmFault.TheVariants.{NoMem
 ghost use Rattle.m11_asm_directives.specs.Changes.{move_model};
 ghost use Rattle.m11_asm_rules.specs.Changes.{with_move, with_section, with_modes, with_value};
 ghost use Rattle.m11_asm_rules.specs.Labels.{with_block, with_definition, with_doubly_defined, with_global};
-ghost use Rattle.m11_asm_rules.specs.Limits.{local_count, most_defined_names, most_local_symbols, most_sections, name_count};
+ghost use Rattle.m11_asm_rules.specs.Limits.{has_too_many, local_count, most_defined_names, most_local_symbols, most_sections, name_count};
 ghost use Rattle.m11_asm_rules.specs.Tables.{first_table};
 ghost use Rattle.m11_asm_lines.specs.Faults.{Overfills, OverfillsFirst};
+ghost use Rattle.m11_asm_rules.specs.declared.definitions.Definition.{Definition as AnyDefinition};
 ghost use Rattle.m11_asm_rules.specs.declared.definitions.Key.TheVariants.{Named, Numbered};
 
 use m11_asm_directives::Move;
@@ -80,14 +81,21 @@ impl Pass {
         ensures refuses { IfErr result (λ fault. OverfillsFirst fault (with_definition (Named name) definition self.old)) }
     {
         self.table.counts_are_within_the_limits();
-        // speed: the count is tested first, so that a name is looked up only once, when it is inserted; most sources have far fewer names
-        if self.table.name_count() >= MOST_DEFINED_NAMES
-            && !self.table.is_defined(&Key::Named(name))
-        {
+        if self.lacks_room(name) {
             return Err(AsmFault::TooManySymbols);
         }
         self.table.insert_name(name, definition)?;
         Ok(())
+    }
+
+    // Whether a name can't be defined, since it is new and 4,104 names are defined.
+    // speed: the count is tested first, so that a name is looked up only once, when it is inserted; most sources have far fewer names
+    #[inline(always)]
+    pub(crate) fn lacks_room(&self, name: Name) -> bool
+        ensures { (definition : AnyDefinition) → result ≡ has_too_many (with_definition (Named name) definition self.now) }
+    {
+        self.table.counts_are_within_the_limits();
+        self.table.name_count() >= MOST_DEFINED_NAMES && !self.table.is_defined(&Key::Named(name))
     }
 
     // Sets the last definition of a local symbol. Errors: `TooManySymbols` if more than 16,384 local symbols would be defined, and
@@ -124,10 +132,12 @@ impl Pass {
         ensures assigns { IfOk result (λ _. self.new ≡ with_value name is_global definition self.old) }
         ensures refuses { IfErr result (λ fault. Overfills fault (with_value name is_global definition self.old)) }
     {
+        self.counts_are_within_the_limits();
         if self.table.is_labelled(&Key::Named(name)) {
             return self.double(&Key::Named(name));
         }
         self.define_name(name, definition)?;
+        self.counts_are_within_the_limits();
         if is_global {
             self.export(name)?;
         }

@@ -1,7 +1,7 @@
 //! The symbols that a line defines or reads. (MACRO-11 Language Reference Manual, "Symbols", "Table of contents and symbol table" and
 //! ".GLOBL directive".)
 
-ghost use Rattle.std.specs.Prelude.{◌≡◌, ◌≤◌, ◌++◌, ℕ, length, map, IfErr};
+ghost use Rattle.std.specs.Prelude.{◌≡◌, ◌≤◌, ◌++◌, ℕ, false, length, map, IfErr, IsSome};
 ghost use Rattle.std.specs.List.{flat_map};
 ghost use Rattle.m11_scan_expressions.specs.Tokens.{expression_of};
 ghost use Rattle.m11_scan_expressions.specs.declared.exprs.Expr.TheVariants.{Term};
@@ -14,8 +14,8 @@ ghost use Rattle.m11_asm_rules.specs.Elements.{names_of, texts_of};
 ghost use Rattle.m11_asm_rules.specs.Limits.{most_names};
 ghost use Rattle.m11_asm_rules.specs.SymbolUses as spec;
 ghost use Rattle.m11_asm_rules.specs.Tables.{Table as LineTable};
-ghost use Rattle.m11_asm_lines.specs.Actions.{action_fields, action_in};
-ghost use Rattle.m11_asm_lines.specs.Labels.{FitsUpToLabel};
+ghost use Rattle.m11_asm_lines.specs.Actions.{action_fields, action_in, selects};
+ghost use Rattle.m11_asm_lines.specs.Labels.{FitsUpToName, HasName};
 ghost use Rattle.m11_asm_lines.specs.UsedSymbols.{Adds, with_all};
 ghost use Rattle.m11_asm_faults.specs.declared.fault.AsmFault.TheVariants.{NoMemory};
 
@@ -35,8 +35,7 @@ impl UsedSymbols {
     /// are within the limit.
     pub fn add_labels(&mut self, line: &Line, labels: &[Label]) -> Result<(), AsmFault>
         ensures adds { Adds (flat_map (spec.label_uses line.now.text) labels.now) self.old self.new result }
-        ensures limit_first { IfErr result (λ fault. fault ≡ NoMemory → FitsUpToLabel labels.now
-            (λ some. length (with_all (flat_map (spec.label_uses line.now.text) some) self.old).names ≤ most_names)) }
+        ensures limit_first { IfErr result (λ fault. fault ≡ NoMemory → FitsUpToName line.now.text labels.now self.old) }
     {
         match labels {
             [] => Ok(()),
@@ -49,6 +48,7 @@ impl UsedSymbols {
 
     fn add_label(&mut self, line: &Line, label: &Label) -> Result<(), AsmFault>
         ensures adds { Adds (spec.label_uses line.now.text label.now) self.old self.new result }
+        ensures names { IfErr result (λ _. HasName line.now.text label.now) }
         ensures limit_first { IfErr result (λ fault. fault ≡ NoMemory
             → length (with_all (spec.label_uses line.now.text label.now) self.old).names ≤ most_names) }
     {
@@ -56,14 +56,14 @@ impl UsedSymbols {
             LabelKind::Ordinary | LabelKind::Global => self.define(read_name(
                 label.name.text(line),
             )),
-            LabelKind::Local(number) => self.add(Symbol::Local(number), Context::LocalOnly),
-            LabelKind::Outside => Ok(()),
+            LabelKind::Local(_) | LabelKind::Outside => Ok(()),
         }
     }
 
     // Adds a name that a line defines or makes global, if it is valid. Errors are those of `add`.
     fn define(&mut self, name: Option<Name>) -> Result<(), AsmFault>
         ensures adds { Adds (spec.defined name) self.old self.new result }
+        ensures names { IfErr result (λ _. IsSome name) }
         ensures limit_first { IfErr result (λ fault. fault ≡ NoMemory
             → length (with_all (spec.defined name) self.old).names ≤ most_names) }
     {
@@ -78,9 +78,10 @@ impl UsedSymbols {
     // speed: inline, since most lines use nothing, or only what the fields of an instruction use.
     #[inline(always)]
     pub fn add_action(&mut self, line: &Line, operation: &Operation) -> Result<(), AsmFault>
-        ensures { (table : LineTable)
+        ensures adds { (table : LineTable)
             → fields_model line.now.text operation.now.fields ≡ action_fields table line.now.text operation.now.action
             → Adds (spec.action_uses table line.now.text (action_in line.now.text operation.now)) self.old self.new result }
+        ensures selects { IfErr result (λ _. selects (action_in line.now.text operation.now) ≡ false) }
     {
         match operation.action {
             Action::NoAction => Ok(()),
@@ -104,8 +105,9 @@ impl UsedSymbols {
         names: &[Option<Span>],
         setting: Setting,
     ) -> Result<(), AsmFault>
-        ensures { (table : LineTable)
+        ensures adds { (table : LineTable)
             → Adds (spec.action_uses table line.now.text (setting_model line.now.text names.now setting)) self.old self.new result }
+        ensures selects { IfErr result (λ _. selects (setting_model line.now.text names.now setting) ≡ false) }
     {
         match setting {
             Setting::Export(_) => self.add_names(line, names),

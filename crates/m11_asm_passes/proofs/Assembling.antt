@@ -41,15 +41,17 @@ use Rattle.m11_asm_lines.specs.declared.actions.Operation.{Operation}
 use Rattle.m11_asm_rules.specs.Asking.{FirmContext, firm_asked}
 use Rattle.m11_asm_passes.proofs.Placing.{Act, IsActOf, after_so, counting_so, defined_refused, line_fits, operation_so, put_so, remarks_so, sections_refused, shown_so, stage_so, uses_refused}
 use Rattle.m11_asm_lines.proofs.Room.{few_of_both}
-use Rattle.m11_asm_lines.specs.Actions.{action_in, after_action, operation_model}
+use Rattle.m11_asm_lines.specs.Actions.{action_in, after_action, operation_model, selects}
 use Rattle.m11_asm_passes.specs.Begun.{Begins, Finishes, States}
-use Rattle.m11_asm_passes.specs.Faults.{Fails}
+use Rattle.m11_asm_passes.proofs.Lacking.{foreign_silent, selects_none}
+use Rattle.m11_asm_passes.specs.Faults.{FailsAtLine, LacksMemory}
+use Rattle.m11_asm_passes.specs.Faults as faults
 use Rattle.m11_asm_lines.specs.Faults.{Overfills, Refuses}
 use Rattle.m11_asm_passes.specs.Lines.{PassLines}
 use Rattle.m11_asm_passes.specs.Lines as lines
 use Rattle.m11_asm_passes.specs.Operated.{uses_after}
 use Rattle.m11_asm_passes.specs.Placed.{live_in}
-use Rattle.m11_asm_passes.specs.Refusals.{given_by, line_fault}
+use Rattle.m11_asm_passes.specs.Refusals.{given_by}
 use Rattle.m11_asm_passes.specs.States.{PassState, GoesOnUntil, PassAfter}
 use Rattle.m11_asm_passes.specs.Turns.{Places, LineFact, SaysLive, SaysPlaced}
 use Rattle.m11_asm_passes.specs.declared.begun.LabelledLine.{LabelledLine}
@@ -143,16 +145,36 @@ module _ (map_ : Map) (live : Live) (old middle : PassState) (does : Operation) 
       ap (λ (d : actions.Action). changed map_ (change_of (firm_table stood) text d) stood) of_done
       ∙ after_so map_ old.table live before middle.unfolder.stage done stood old.counting begins.labels.table acts
 
+  -- memory is refused for what a line uses or emits, if that isn't a selection of a section
+  lacks : selects of ≡ false → LacksMemory map_ old.table old.counting live before
+  lacks none =
+      faults.LacksMemory.AtOperands begins.labels.fits begins.acts.0 (ap (λ (d : actions.Action). selects d) (sym own) ∙ none)
+
+  -- nothing is selected, if that is so where unfolding has read no symbols
+  selects_no_more : (done.remarks.symbols ≡ [] → selects of ≡ false) → selects of ≡ false
+  selects_no_more none =
+      let S : actions.Action → Type 0 = λ d. done.remarks.symbols ≡ [] → selects d ≡ false in
+      ap (λ (d : actions.Action). selects d) of_done
+      ∙ selects_none done.is_own done.remarks done.arguments text
+      (λ foreign. acts.remarks_are ∙ foreign_silent (known_after_labels stood) before text (sym acts.own_is ∙ foreign)) (subst S of_done none)
+
+  -- if memory is refused for what the line emits, the line fails for lack of memory
+  pub emit_fails : (fault : AsmFault) → Refuses fault ⊥ ⊥ → selects of ≡ false
+      → FailsAtLine map_ old.table old.counting live before fault
+  emit_fails NoMemory refuses none = lacks none
+  emit_fails other refuses none = absurd refuses
+
   -- if the uses of the line are refused, the line fails with the same fault
   pub use_fails : (fault : AsmFault)
       → Refuses fault (most_names < length (names_counted (with_counted (uses_after stood text done.remarks of) middle.counting))) ⊥
-      → Fails (line_fault map_ old.table old.counting live before) fault
-  use_fails TooManySymbols many =
+      → (done.remarks.symbols ≡ [] → selects of ≡ false)
+      → FailsAtLine map_ old.table old.counting live before fault
+  use_fails TooManySymbols many none =
       let P : Counting → Type 0 = λ g. most_names < length (names_counted g) in
       uses_refused map_ old.table live before middle.unfolder.stage done stood old.counting begins.labels.table acts begins.labels.fits
       (subst P (all_so _ refl) many)
-  use_fails NoMemory many = tt
-  use_fails other many = absurd many
+  use_fails NoMemory many none = lacks (selects_no_more none)
+  use_fails other many none = absurd many
 
   module _ (all : Counting) (all_are : all ≡ with_counted (uses_after stood text done.remarks of) middle.counting)
       (few : length (names_counted all) ≤ most_names) (defined : name_count stood ≤ most_defined_names)
@@ -162,7 +184,7 @@ module _ (map_ : Map) (live : Live) (old middle : PassState) (does : Operation) 
 
     -- if the line defines a name or a local symbol too many, or selects a section too many, it fails with the fault of that limit
     pub change_fails : (fault : AsmFault) → Overfills fault (after_action map_ text of stood)
-        → Fails (line_fault map_ old.table old.counting live before) fault
+        → FailsAtLine map_ old.table old.counting live before fault
     change_fails TooManySymbols many =
         let P : Table → Type 0 = λ t. has_too_many t ≡ true in
         defined_refused map_ old.table live before middle.unfolder.stage done stood old.counting begins.labels.table acts begins.labels.fits
@@ -174,7 +196,12 @@ module _ (map_ : Map) (live : Live) (old middle : PassState) (does : Operation) 
         sections_refused map_ old.table live before middle.unfolder.stage done stood old.counting begins.labels.table acts begins.labels.fits
         few_used (subst R begins.labels.table (few_of_both stood defined symbols)) (subst S begins.labels.table within)
         (subst P table_so many)
-    change_fails NoMemory many = tt
+    change_fails NoMemory few =
+        let R : Table → Type 0 = λ t. has_too_many t ≡ false in
+        let S : Table → Type 0 = λ t. length t.sections ≤ most_sections in
+        faults.LacksMemory.AfterLimits
+        (line_fits map_ old.table live before middle.unfolder.stage done stood old.counting begins.labels.table acts begins.labels.fits few_used
+        (subst R table_so few.0) (subst S table_so few.1))
     change_fails other many = absurd many
 
     -- if the line is changed and counted within the limits, the pass is in the state after the line
@@ -282,17 +309,17 @@ begins_still map_ live old middle does begun emission begins = record {
 -- ---- a refusal is returned
 
 pub places_fails : (map_ : Map) (live : Live) (stage : Stage) (old new : PassState) (fault : AsmFault) (said : LineFact)
-    (result : Result (Unit {0}) AsmFault) → Fails (line_fault map_ old.table old.counting live stage) fault
+    (result : Result (Unit {0}) AsmFault) → FailsAtLine map_ old.table old.counting live stage fault
     → IsErrAnd result (λ f. f ≡ fault) → Places map_ live stage old new said result
 places_fails map_ live stage old new fault said (Ok _) fails is = absurd is
 places_fails map_ live stage old new fault said (Err other) fails is =
-    let P : AsmFault → Type 0 = λ f. Fails (line_fault map_ old.table old.counting live stage) f in
+    let P : AsmFault → Type 0 = λ f. FailsAtLine map_ old.table old.counting live stage f in
     subst P (sym is) fails
 
 pub finish_fails : (map_ : Map) (live : Live) (stage : Stage) (old new : PassState) (fault : AsmFault)
-    (result : Result (Option Item) AsmFault) → Fails (line_fault map_ old.table old.counting live stage) fault
+    (result : Result (Option Item) AsmFault) → FailsAtLine map_ old.table old.counting live stage fault
     → IsErrAnd result (λ f. f ≡ fault) → Finishes map_ live stage old new result
 finish_fails map_ live stage old new fault (Ok _) fails is = absurd is
 finish_fails map_ live stage old new fault (Err other) fails is =
-    let P : AsmFault → Type 0 = λ f. Fails (line_fault map_ old.table old.counting live stage) f in
+    let P : AsmFault → Type 0 = λ f. FailsAtLine map_ old.table old.counting live stage f in
     subst P (sym is) fails

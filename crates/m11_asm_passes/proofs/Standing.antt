@@ -20,11 +20,12 @@ use Rattle.m11_asm_rules.specs.Tables.{Table, first_table}
 use Rattle.m11_asm_lines.specs.Counting.{with_counted}
 use Rattle.m11_asm_lines.specs.declared.counting.Counting.{Counting}
 use Rattle.m11_asm_passes.proofs.Faults.{IsOfPass, line_fault_is_of_pass}
-use Rattle.m11_asm_passes.specs.Faults.{Fails}
-use Rattle.m11_asm_passes.specs.Lines.{NumberedLine, PassLines, acted, counting_after, counting_at, givens, numbered, table_at, with_line}
+use Rattle.m11_asm_passes.specs.Faults.{FailsAtLine, LacksMemory}
+use Rattle.m11_asm_passes.specs.Faults as faults
+use Rattle.m11_asm_passes.specs.Lines.{NumberedLine, PassLines, acted, counting_after, counting_at, givens, numbered, table_at}
 use Rattle.m11_asm_passes.specs.Lines as lines
 use Rattle.m11_asm_passes.specs.Placed.{live_in}
-use Rattle.m11_asm_passes.specs.Reaching.{Exceeds, PlacesLine, Reaches, Refused}
+use Rattle.m11_asm_passes.specs.Reaching.{Exceeds, MayLackMemory, PlacesLine, Reaches, Refused}
 use Rattle.m11_asm_passes.specs.Reaching as reaching
 use Rattle.m11_asm_passes.specs.Refusals.{given_by, line_fault}
 use Rattle.m11_asm_passes.specs.States.{PassState, PassAfter, fed}
@@ -108,9 +109,16 @@ module _ (map_ : Map) (before : Counting) where
       of_line : (fault : AsmFault) → line_fault map_ old.table old.counting live stage ≡ Some fault → IsOfPass fault
       of_line fault refused = line_fault_is_of_pass map_ old.table old.counting live stage fault refused
 
-      fails_so : (fault : AsmFault) → Fails (line_fault map_ old.table old.counting live stage) fault
+      lacks : LacksMemory map_ old.table old.counting live stage → MayLackMemory map_ before source all
+      lacks here =
+          let T : Table → Type 0 = λ t. LacksMemory map_ t old.counting live stage in
+          let C : Counting → Type 0 = λ c. LacksMemory map_ (table_at map_ all) c live stage in
+          reaching.MayLackMemory.AtLine comes.middle stage live (passing comes.middle comes.passing) comes.is_within comes.gives
+          (subst C stands.counting (subst T stands.table here))
+
+      fails_so : (fault : AsmFault) → FailsAtLine map_ old.table old.counting live stage fault
           → Refused map_ before source all fault
-      fails_so NoMemory fails = tt
+      fails_so NoMemory fails = lacks fails
       fails_so Read fails = of_line Read fails
       fails_so (Write output) fails = of_line (Write output) fails
       fails_so TooMuchSource fails = of_line TooMuchSource fails
@@ -135,6 +143,7 @@ module _ (map_ : Map) (before : Counting) where
                 ∙ sym (all_more all (numbered (length source) one));
           };
           is_said = subst S stands.table here.is_said;
+          may_lack = lacks live next.stage next.comes (faults.LacksMemory.AfterLimits here.leaves.fits);
         }
 
     before_line : (fault : UnfoldFault) → Stops old.unfolder.stage fault → Refused map_ before source all (of_unfolding fault)
@@ -146,7 +155,8 @@ module _ (map_ : Map) (before : Counting) where
         reaching.Exceeds.BeforeLine stops.middle limit.TooMuchText (passing stops.middle stops.passing) stops.passes refl
     before_line limit.TooManyMacros stops =
         reaching.Exceeds.BeforeLine stops.middle limit.TooManyMacros (passing stops.middle stops.passing) stops.passes refl
-    before_line limit.NoMemory stops = tt
+    before_line limit.NoMemory stops =
+        reaching.MayLackMemory.BeforeLine stops.middle (passing stops.middle stops.passing) stops.passes.0 stops.passes.1
 
     refused : (fault : AsmFault) → FailsAt map_ old fault → Refused map_ before source all fault
     refused fault (turning.FailsAt.BeforeLine inner is stops) =

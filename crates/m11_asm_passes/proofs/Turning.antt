@@ -18,12 +18,12 @@ use Rattle.m11_asm_lines.specs.Faults.{Refuses}
 use Rattle.m11_asm_lines.specs.Counting.{with_counted}
 use Rattle.m11_asm_lines.specs.UsedSymbols.{Adds, UsedNames, with_all}
 use Rattle.m11_asm_lines.specs.declared.counting.Counting.{Counting}
-use Rattle.m11_asm_passes.specs.Faults.{Fails}
+use Rattle.m11_asm_passes.specs.Faults.{FailsAtLine}
 use Rattle.m11_asm_passes.specs.Lines.{acted}
 use Rattle.m11_asm_rules.specs.Lines.{after_line}
 use Rattle.m11_asm_passes.specs.Refusals.{given_by, line_fault}
 use Rattle.m11_asm_passes.specs.States.{PassState}
-use Rattle.m11_asm_passes.specs.Turns.{FailsAt, Places, PlacesAfter, PlacesNext, LineFact, Turns}
+use Rattle.m11_asm_passes.specs.Turns.{FailsAt, Places, PlacesNext, LineFact, Turns}
 use Rattle.m11_asm_passes.specs.Turns as turning
 use Rattle.m11_asm_passes.specs.declared.turns.Turn.{Turn}
 
@@ -63,13 +63,13 @@ module _ (map_ : Map) (old new : PassState) (said : LineFact) where
 
   pub line_fails : (middle : PassState) (live here : Live) (stage : Stage) (fault : AsmFault) (result : Result Turn AsmFault)
       → Comes old.unfolder.stage live stage → middle.table ≡ old.table → middle.counting ≡ old.counting
-      → Fails (line_fault map_ middle.table middle.counting live stage) fault
+      → FailsAtLine map_ middle.table middle.counting live stage fault
       → IsErrAnd result (λ f. f ≡ fault) → Turns map_ old new here said result
   line_fails middle live here stage fault (Ok turn) comes table counting fails is = absurd is
   line_fails middle live here stage fault (Err other) comes table counting fails is =
       let P : AsmFault → Type 0 = λ f. FailsAt map_ old f in
-      let T : Table → Type 0 = λ t. Fails (line_fault map_ t middle.counting live stage) fault in
-      let C : Counting → Type 0 = λ c. Fails (line_fault map_ old.table c live stage) fault in
+      let T : Table → Type 0 = λ t. FailsAtLine map_ t middle.counting live stage fault in
+      let C : Counting → Type 0 = λ c. FailsAtLine map_ old.table c live stage fault in
       subst P (sym is) (turning.FailsAt.AtLine live stage comes (subst C counting (subst T table fails)))
 
   pub line_places : (middle : PassState) (live here : Live) (stage : Stage) → here ≡ live

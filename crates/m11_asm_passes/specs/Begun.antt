@@ -18,9 +18,9 @@ use Rattle.m11_asm_rules.specs.Unfolded.{known_after_labels}
 use Rattle.m11_asm_lines.specs.Actions.{IsRead, operation_model}
 use Rattle.m11_asm_lines.specs.Counting.{with_counted}
 use Rattle.m11_asm_lines.specs.declared.actions.Operation.{Operation}
-use Rattle.m11_asm_passes.specs.Faults.{Fails}
+use Rattle.m11_asm_passes.specs.Faults.{FailsAtLine}
 use Rattle.m11_asm_passes.specs.Labelled.{LabelsLie}
-use Rattle.m11_asm_passes.specs.Refusals.{given_by, line_fault, uses_of_labels}
+use Rattle.m11_asm_passes.specs.Refusals.{given_by, uses_of_labels}
 use Rattle.m11_asm_passes.specs.States.{PassState}
 use Rattle.m11_asm_passes.specs.Turns.{LeavesAfter}
 use Rattle.m11_asm_passes.specs.declared.begun.LabelledLine.{LabelledLine}
@@ -45,4 +45,4 @@ pub record Begins (map : Map) (live : Live) (old new : PassState) (does : Operat
 abbrev pub Finishes : Map → Live → Stage → PassState → PassState → Result (Option Item) AsmFault → Type 0
 Finishes map live stage old new (Ok item) =
     LeavesAfter map live stage old new × (option_to_list item ≡ assigned_items map old.table (given_by old.table live stage))
-Finishes map live stage old new (Err fault) = Fails (line_fault map old.table old.counting live stage) fault
+Finishes map live stage old new (Err fault) = FailsAtLine map old.table old.counting live stage fault

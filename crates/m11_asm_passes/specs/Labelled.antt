@@ -1,16 +1,14 @@
 -- The effect of the labels of a line. (MACRO-11 Language Reference Manual, "Label field", "Local symbols" and "Diagnostic error message
 -- summary", M and P.)
-use Rattle.std.specs.Prelude.{◌≡◌, ◌≤◌, ◌⊎◌, false, None, length}
-use Rattle.std.specs.List.{flat_map}
+use Rattle.std.specs.Prelude.{◌≡◌, ◌≤◌, ◌⊎◌, None, length}
 use Rattle.m11_base.specs.Devices.{Bytes}
 use Rattle.m11_scan_statements.specs.Labels.{labels_at}
-use Rattle.m11_asm_rules.specs.Labels.{labels_flags, after_labels_in, with_labels}
-use Rattle.m11_asm_rules.specs.Limits.{has_too_many, most_names}
+use Rattle.m11_asm_rules.specs.Labels.{labels_flags, after_labels_in}
+use Rattle.m11_asm_rules.specs.Limits.{most_names}
 use Rattle.m11_asm_rules.specs.Meanings.{Map}
-use Rattle.m11_asm_rules.specs.SymbolUses.{label_uses}
 use Rattle.m11_asm_rules.specs.Tables.{Table}
-use Rattle.m11_asm_lines.specs.Labels.{AreFlags, FitsUpToLabel}
-use Rattle.m11_asm_lines.specs.Counting.{names_counted, with_counted}
+use Rattle.m11_asm_lines.specs.Labels.{AreFlags, FitsUpToDefined}
+use Rattle.m11_asm_lines.specs.Counting.{FitsUpToCounted, names_counted, with_counted}
 use Rattle.m11_asm_lines.specs.Moved.{moved_flags}
 use Rattle.m11_asm_lines.specs.declared.counting.Counting.{Counting}
 use Rattle.m11_asm_lines.specs.declared.labels.LabelFlags.{LabelFlags}
@@ -22,11 +20,10 @@ pub record LabelsLie (map : Map) (counting : Counting) (line : Bytes) (old new :
   pub table : new ≡ after_labels_in old line
   pub are : AreFlags flags (labels_flags line old (labels_at line)) (moved_flags map line old (labels_at line))
 
--- if memory is refused at a label, the names counted up to and including that label are within their limit; or the names of all labels of
--- the line are counted within that limit, and the names and local symbols defined up to and including that label are within theirs
+-- if memory is refused for the name of a label, the names counted up to and including that one are within their limit; or the names of all
+-- labels of the line are counted within that limit, memory is refused for a label, and the names and local symbols defined up to and
+-- including that one are within theirs
 abbrev pub FitUpToOne : Counting → Table → Bytes → Type 0
 FitUpToOne old table line =
-    FitsUpToLabel (labels_at line)
-    (λ some. length (names_counted (with_counted (flat_map (label_uses line) some) old)) ≤ most_names)
-    ⊎ ((length (names_counted (with_counted (uses_of_labels line) old)) ≤ most_names)
-    × FitsUpToLabel (labels_at line) (λ some. has_too_many (with_labels line table some) ≡ false))
+    FitsUpToCounted line (labels_at line) old
+    ⊎ ((length (names_counted (with_counted (uses_of_labels line) old)) ≤ most_names) × FitsUpToDefined line (labels_at line) table)

@@ -15,7 +15,7 @@ use Rattle.m11_asm_rules.specs.Meanings.{Map}
 use Rattle.m11_asm_rules.specs.SymbolUses.{symbol_uses}
 use Rattle.m11_asm_rules.specs.Tables.{Table}
 use Rattle.m11_asm_lines.specs.Counting.{with_counted}
-use Rattle.m11_asm_passes.specs.Faults.{Fails}
+use Rattle.m11_asm_passes.specs.Faults.{FailsAtLine}
 use Rattle.m11_asm_passes.specs.Lines.{acted}
 use Rattle.m11_asm_passes.specs.Placed.{IsLive, IsPlaced}
 use Rattle.m11_asm_passes.specs.Refusals.{given_by, line_fault}
@@ -50,7 +50,7 @@ pub record PlacesAfter (map : Map) (live : Live) (stage : Stage) (old new : Pass
 -- a line is placed, and this fact holds of it; or the line exceeds a limit, or memory was refused
 abbrev pub Places : Map → Live → Stage → PassState → PassState → LineFact → Result (Unit {0}) AsmFault → Type 0
 Places map live stage old new said (Ok _) = PlacesAfter map live stage old new said
-Places map live stage old new said (Err fault) = Fails (line_fault map old.table old.counting live stage) fault
+Places map live stage old new said (Err fault) = FailsAtLine map old.table old.counting live stage fault
 
 -- nothing is placed: the table and the counted names are as before
 pub record IsUnplaced (old new : PassState) : Type 0 where
@@ -67,7 +67,7 @@ pub record PlacesNext (map : Map) (old new : PassState) (live : Live) (said : Li
 pub data FailsAt (map : Map) (old : PassState) (fault : AsmFault) : Type 0 where
   BeforeLine : (inner : UnfoldFault) → fault ≡ of_unfolding inner → Stops old.unfolder.stage inner → FailsAt map old fault
   AtLine : (live : Live) (stage : Stage) → Comes old.unfolder.stage live stage
-      → Fails (line_fault map old.table old.counting live stage) fault → FailsAt map old fault
+      → FailsAtLine map old.table old.counting live stage fault → FailsAt map old fault
 
 -- a call goes on to the next live line and places it; or a line is needed, or `.END` is live, and the call places nothing; or it fails
 abbrev pub Turns : Map → PassState → PassState → Live → LineFact → Result Turn AsmFault → Type 0

@@ -7,9 +7,8 @@ ghost use Rattle.m11_asm_rules.specs.Unfolded.{known_after_labels};
 ghost use Rattle.m11_scan_statements.specs.Labels.{labels_at};
 ghost use Rattle.m11_unfold.specs.Unfolder as steps;
 ghost use Rattle.m11_asm_passes.specs.Begun.{Begins, States};
-ghost use Rattle.m11_asm_passes.specs.Faults.{Fails};
+ghost use Rattle.m11_asm_passes.specs.Faults.{FailsAtLine};
 ghost use Rattle.m11_asm_passes.specs.Placed.{live_in};
-ghost use Rattle.m11_asm_passes.specs.Refusals.{line_fault};
 ghost use Rattle.m11_asm_passes.specs.States.{pass_state_of};
 
 use crate::labelling::define_labels;
@@ -47,7 +46,7 @@ impl State {
         requires free { self.old.unfolder.has_statement ≡ false }
         ensures same { live_in live.new ≡ live_in live.old }
         ensures begins { IfOk result (λ begun. Begins map.now (live_in live.new) (pass_state_of self.old) (pass_state_of self.new) live.new.operation begun) }
-        ensures fails { IfErr result (λ fault. Fails (line_fault map.now self.old.pass self.old.counting (live_in live.old) self.old.unfolder.stage) fault) }
+        ensures fails { IfErr result (λ fault. FailsAtLine map.now self.old.pass self.old.counting (live_in live.old) self.old.unfolder.stage fault) }
         ensures taken { IfOk result (λ _. self.new.unfolder.stage.taken ≡ self.old.unfolder.stage.taken) }
         ensures goes_on { IfOk result (λ _. self.new.unfolder.fault ≡ None) }
     {

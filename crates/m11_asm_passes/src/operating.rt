@@ -1,6 +1,6 @@
 //! The second half of handling a live line: what follows its labels. (MACRO-11 Language Reference Manual, "Operator field" and "Symbols".)
 
-ghost use Rattle.std.specs.Prelude.{◌≡◌, IfOk, IfErr, map};
+ghost use Rattle.std.specs.Prelude.{◌≡◌, ◌≢◌, [], false, IfOk, IfErr, map};
 ghost use Rattle.std.specs.Option.{option_to_list};
 ghost use Rattle.m11_base.specs.Devices.{Bytes};
 ghost use Rattle.m11_asm_operands.specs.Reads.{fields_model};
@@ -8,7 +8,7 @@ ghost use Rattle.m11_asm_rules.specs.Items.{action_items, is_shown};
 ghost use Rattle.m11_asm_rules.specs.Lines.{emission_by, put_location};
 ghost use Rattle.m11_asm_rules.specs.Tables.{Table as LineTable, location, section_name};
 ghost use Rattle.m11_asm_lines.specs.Counting.{Counts};
-ghost use Rattle.m11_asm_lines.specs.Actions.{IsRead, action_fields, action_in, after_action};
+ghost use Rattle.m11_asm_lines.specs.Actions.{IsRead, action_fields, action_in, after_action, selects};
 ghost use Rattle.m11_asm_rules.specs.SymbolUses.{symbol_use};
 ghost use Rattle.m11_asm_rules.specs.declared.meanings.Context.TheVariants.{LocalOnly};
 ghost use Rattle.m11_asm_lines.specs.UsedSymbols.{Adds};
@@ -35,6 +35,7 @@ pub(crate) fn emit_line(
     requires { IsRead pass.now line.now.text operation.now }
     ensures puts { IfOk result (λ _. emission.new ≡ emission_by map.now pass.now line.now.text (action_in line.now.text operation.now)) }
     ensures refuses { IfErr result (λ fault. Refuses fault ⊥ ⊥) }
+    ensures selects { IfErr result (λ _. selects (action_in line.now.text operation.now) ≡ false) }
 {
     emission.clear();
     emit_action(emission, map, pass.table(), line, operation)?;
@@ -43,7 +44,8 @@ pub(crate) fn emit_line(
 
 // `used_symbols` gets the symbols that unfolding evaluated. Errors: `TooManySymbols`; `NoMemory`.
 fn use_read(used_symbols: &mut UsedSymbols, remarks: &Remarks) -> Result<(), AsmFault>
-    ensures { Adds (map (symbol_use LocalOnly) remarks.now.symbols) used_symbols.old used_symbols.new result }
+    ensures adds { Adds (map (symbol_use LocalOnly) remarks.now.symbols) used_symbols.old used_symbols.new result }
+    ensures some { IfErr result (λ _. remarks.now.symbols ≢ []) }
 {
     match remarks.symbols() {
         // speed: most lines have none, and need no call
@@ -62,8 +64,9 @@ fn use_line(
     remarks: &Remarks,
     operation: &Operation,
 ) -> Result<(), AsmFault>
-    ensures { (table : LineTable) → fields_model line.now.text operation.now.fields ≡ action_fields table line.now.text operation.now.action
+    ensures adds { (table : LineTable) → fields_model line.now.text operation.now.fields ≡ action_fields table line.now.text operation.now.action
         → Adds (uses_after table line.now.text remarks.now (action_in line.now.text operation.now)) used_symbols.old used_symbols.new result }
+    ensures selects { IfErr result (λ _. remarks.now.symbols ≡ [] → selects (action_in line.now.text operation.now) ≡ false) }
 {
     use_read(used_symbols, remarks)?;
     used_symbols.add_action(line, operation)?;
@@ -78,8 +81,9 @@ pub(crate) fn count_line(
     remarks: &Remarks,
     operation: &Operation,
 ) -> Result<(), AsmFault>
-    ensures { (table : LineTable) → fields_model line.now.text operation.now.fields ≡ action_fields table line.now.text operation.now.action
+    ensures counts { (table : LineTable) → fields_model line.now.text operation.now.fields ≡ action_fields table line.now.text operation.now.action
         → Counts (uses_after table line.now.text remarks.now (action_in line.now.text operation.now)) counting.old counting.new result }
+    ensures selects { IfErr result (λ _. remarks.now.symbols ≡ [] → selects (action_in line.now.text operation.now) ≡ false) }
 {
     match counting {
         Counting::SymbolUses(used_symbols) => { use_line(used_symbols, line, remarks, operation) }

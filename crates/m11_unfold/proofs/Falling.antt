@@ -8,7 +8,7 @@ use Rattle.m11_unfold_rules.specs.declared.fault.UnfoldFault.{UnfoldFault}
 use Rattle.m11_unfold_rules.specs.declared.fault.UnfoldFault.TheVariants.{TooDeep, TooManyLines, TooMuchText, TooManyMacros, NoMemory}
 use Rattle.m11_unfold_rules.proofs.Cases.{bytes_taken}
 use Rattle.m11_unfold.specs.Kept.{IsKept}
-use Rattle.m11_unfold.specs.Steps.{Fails, FailsMoving, with_line}
+use Rattle.m11_unfold.specs.Steps.{Fails, FailsGrowing, with_line}
 
 -- if the limits hold with a line before what is left, they hold without it
 pub kept_untaken : (line : SourceLine) (stage : Stage) → IsKept (with_line line stage) → IsKept stage
@@ -66,7 +66,7 @@ kept_unconditioned stage kept =
 
 -- if a line of an open body fails, the move fails with the same fault
 pub fails_moving : (passed : Option UnfoldFault) (grows : Bool) (fault : UnfoldFault) → grows ≡ true → Fails passed fault
-    → FailsMoving passed grows fault
+    → FailsGrowing passed grows fault
 fails_moving passed grows TooDeep is fails = fails
 fails_moving passed grows TooManyLines is fails = fails
 fails_moving passed grows TooMuchText is fails = fails

@@ -18,7 +18,7 @@ use Rattle.m11_unfold_rules.specs.Unfolding.{UnfoldedLine, Leads, Unfolds, given
 use Rattle.m11_unfold_rules.specs.Unfolding as steps
 use Rattle.m11_unfold_rules.specs.declared.fault.UnfoldFault.{UnfoldFault}
 use Rattle.m11_unfold.specs.Sources.{IsAllRead, IsOver, Reaches, ReachesOn, Refuses, RefusesAt}
-use Rattle.m11_unfold.specs.Steps.{Fails}
+use Rattle.m11_unfold.specs.Steps.{FailsGrowing, executes}
 use Rattle.m11_unfold.specs.Unfolder.{Acts, Comes, Steps, Stops, live_of}
 use Rattle.m11_unfold.specs.declared.steps.Act.{Act}
 use Rattle.m11_unfold.specs.declared.steps.Step.{Step}
@@ -99,7 +99,7 @@ reaches source done before after line (Err fault) stands stepped = refuses sourc
 
 module _ (source : List SourceLine) (done : List UnfoldedLine) (before live_stage after : Stage) (line : SourceLine) (is_expanded : Bool)
     (known : KnownSymbols) (stands : Unfolds source done before) (came : Comes before (live_of line is_expanded) live_stage) where
-  refuses_at : (fault : UnfoldFault) → Fails (act_fault live_stage line.text) fault
+  refuses_at : (fault : UnfoldFault) → FailsGrowing (act_fault live_stage line.text) (executes live_stage line.text) fault
       → RefusesAt source done (live_of line is_expanded) fault
   refuses_at fault fails = record {
     stage = came.middle;

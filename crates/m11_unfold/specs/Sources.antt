@@ -9,7 +9,7 @@ use Rattle.m11_unfold_rules.specs.Histories.{with_more}
 use Rattle.m11_unfold_rules.specs.Taking.{Gives, Live, NothingLeft, move}
 use Rattle.m11_unfold_rules.specs.Unfolding.{UnfoldedLine, Leads, Unfolds, given}
 use Rattle.m11_unfold_rules.specs.declared.fault.UnfoldFault.{UnfoldFault}
-use Rattle.m11_unfold.specs.Steps.{Fails, FailsMoving, grows}
+use Rattle.m11_unfold.specs.Steps.{FailsGrowing, executes, grows}
 use Rattle.m11_unfold.specs.Unfolder.{live_of}
 use Rattle.m11_unfold.specs.declared.steps.Act.{Act}
 use Rattle.m11_unfold.specs.declared.steps.Step.{Step}
@@ -19,7 +19,7 @@ use Rattle.m11_unfold.specs.declared.steps.Step.TheVariants.{NeedLine, End, Line
 pub record Refuses (source : List SourceLine) (done : List UnfoldedLine) (fault : UnfoldFault) : Type 0 where
   pub stage : Stage
   pub unfolds : Unfolds source done stage
-  pub passes : FailsMoving (next_fault stage) (grows stage) fault
+  pub passes : FailsGrowing (next_fault stage) (grows stage) fault
 
 -- all lines of the source have been read, and nothing is left to unfold
 pub record IsAllRead (source : List SourceLine) (done : List UnfoldedLine) (after : Stage) : Type 0 where
@@ -43,14 +43,14 @@ Reaches source done after line (Ok (Line is_expanded)) = (known : KnownSymbols) 
     → Unfolds source (done ++ given known (live_of line is_expanded) after ∷ []) (act known after line.text).after
 Reaches source done after line (Err fault) = Refuses source done fault
 
--- after these lines, the operator of the next one exceeds a limit; or it exceeds none, and memory is refused
+-- after these lines, the operator of the next one exceeds a limit; or it exceeds none, unfolding executes it, and memory is refused
 pub record RefusesAt (source : List SourceLine) (done : List UnfoldedLine) (live : Live) (fault : UnfoldFault) : Type 0 where
   pub stage : Stage
   pub after : Stage
   pub unfolds : Unfolds source done stage
   pub is_within : next_fault stage ≡ None
   pub gives : move stage ≡ Gives live after
-  pub passes : Fails (act_fault after live.line.text) fault
+  pub passes : FailsGrowing (act_fault after live.line.text) (executes after live.line.text) fault
 
 -- after a call for the operator of a live line: the line is the next one of the unfolding, and the call returned the results that the
 -- unfolding has for this line; or the call failed

@@ -4,6 +4,7 @@ use Rattle.m11_base.specs.Devices.{Bytes}
 use Rattle.m11_unfold_bodies.specs.Bodies.{depth_after}
 use Rattle.m11_unfold_bodies.specs.Left.{RemainingItem, Line, End}
 use Rattle.m11_scan.specs.Line.{SourceLine}
+use Rattle.m11_unfold_rules.specs.Acting.{Foreign, operation}
 use Rattle.m11_unfold_rules.specs.Limits.{body_fault, closing_fault, next_fault}
 use Rattle.m11_unfold_rules.specs.Stages.{Opening, Purpose, Stage}
 use Rattle.m11_unfold_rules.specs.Taking as taking
@@ -27,10 +28,15 @@ grows_from (Line line ∷ left) stage = is_some stage.opening
 abbrev pub grows : Stage → Bool
 grows stage = grows_from stage.left stage
 
--- the fault of a move is that of the exceeded limit, or `NoMemory` if none is exceeded; only a move into a body allocates memory
-abbrev pub FailsMoving : Option UnfoldFault → Bool → UnfoldFault → Type 0
-FailsMoving passed grows NoMemory = (passed ≡ None) × (grows ≡ true)
-FailsMoving passed grows fault = passed ≡ Some fault
+-- whether unfolding executes the operator of a line: it calls a macro, or is a directive for conditions, repeats or macros, or `.END`
+abbrev pub executes : Stage → Bytes → Bool
+executes stage text = elim (operation stage.conditions stage.macros text) [ Foreign ↦ false | _ ↦ true ]
+
+-- the fault is that of the exceeded limit, or `NoMemory` if none is exceeded and memory is asked for: a move asks for it only if it leads
+-- into a body, and an operator only if unfolding executes it
+abbrev pub FailsGrowing : Option UnfoldFault → Bool → UnfoldFault → Type 0
+FailsGrowing passed grows NoMemory = (passed ≡ None) × (grows ≡ true)
+FailsGrowing passed grows fault = passed ≡ Some fault
 
 -- a stage with a line inserted before what is left
 abbrev pub with_line : SourceLine → Stage → Stage
@@ -42,14 +48,14 @@ Results passed grows move after line (Ok NothingLeft) = move ≡ taking.NothingL
 Results passed grows move after line (Ok Passes) = (passed ≡ None) × (move ≡ taking.Passes after)
 Results passed grows move after line (Ok (Gives is_expanded)) =
     (passed ≡ None) × (move ≡ taking.Gives (record { line = line; is_expanded = is_expanded }) after)
-Results passed grows move after line (Err fault) = FailsMoving passed grows fault
+Results passed grows move after line (Err fault) = FailsGrowing passed grows fault
 
 abbrev pub Moves : Stage → Stage → SourceLine → Result MoveResult UnfoldFault → Type 0
 Moves before after line (Ok NothingLeft) = (move before ≡ taking.NothingLeft) × (after ≡ before)
 Moves before after line (Ok Passes) = (next_fault before ≡ None) × (move before ≡ taking.Passes after)
 Moves before after line (Ok (Gives is_expanded)) =
     (next_fault before ≡ None) × (move before ≡ taking.Gives (record { line = line; is_expanded = is_expanded }) after)
-Moves before after line (Err fault) = FailsMoving (next_fault before) (grows before) fault
+Moves before after line (Err fault) = FailsGrowing (next_fault before) (grows before) fault
 
 -- if a line became live, no statement of an `.IIF` comes next
 abbrev pub IsFree : Bool → Result MoveResult UnfoldFault → Type 0

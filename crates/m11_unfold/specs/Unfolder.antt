@@ -11,7 +11,7 @@ use Rattle.m11_unfold_rules.specs.Stages.{Stage}
 use Rattle.m11_unfold_rules.specs.Taking as taking
 use Rattle.m11_unfold_rules.specs.Unfolding.{Leads}
 use Rattle.m11_unfold_rules.specs.declared.fault.UnfoldFault.{UnfoldFault}
-use Rattle.m11_unfold.specs.Steps.{Fails, FailsMoving, grows}
+use Rattle.m11_unfold.specs.Steps.{FailsGrowing, executes, grows}
 use Rattle.m11_unfold.specs.declared.steps.Act.{Act}
 use Rattle.m11_unfold.specs.declared.steps.Step.{Step}
 use Rattle.m11_unfold.specs.declared.steps.Step.TheVariants.{NeedLine, End, Line}
@@ -37,7 +37,7 @@ pub record Comes (before : Stage) (live : taking.Live) (after : Stage) : Type 0 
 pub record Stops (before : Stage) (fault : UnfoldFault) : Type 0 where
   pub middle : Stage
   pub passing : Leads before [] middle
-  pub passes : FailsMoving (next_fault middle) (grows middle) fault
+  pub passes : FailsGrowing (next_fault middle) (grows middle) fault
 
 -- a call leads to the next live line, and stores it; or a line of the source is needed, or `.END` is live; or the call fails
 abbrev pub Steps : Stage → Stage → SourceLine → Result Step UnfoldFault → Type 0
@@ -75,4 +75,4 @@ Acts known text before after (Ok acted) =
     (act_fault before text ≡ None) × (after ≡ (act known before text).after)
     × (acted.is_own ≡ (act known before text).is_own) × (acted.remarks ≡ (act known before text).remarks)
     × (acted.arguments ≡ argument_count before.left)
-Acts known text before after (Err fault) = Fails (act_fault before text) fault
+Acts known text before after (Err fault) = FailsGrowing (act_fault before text) (executes before text) fault

@@ -14,7 +14,7 @@ ghost use Rattle.m11_unfold_rules.specs.Acting as spec;
 ghost use Rattle.m11_unfold_rules.specs.Limits.{depth_fault};
 ghost use Rattle.m11_unfold_rules.specs.Macros.{macro_named};
 ghost use Rattle.m11_unfold.specs.Kept.{IsKept};
-ghost use Rattle.m11_unfold.specs.Steps.{Fails};
+ghost use Rattle.m11_unfold.specs.Steps.{Fails, FailsGrowing, executes};
 ghost use Rattle.m11_unfold.specs.Views.{stage_of};
 
 use crate::macros::Macro;
@@ -51,7 +51,8 @@ impl State {
         ensures remarks { IfOk result (λ _. remarks.new ≡ joined remarks.old (spec.act
             (known_by (N.base names.now) (N.value_of_symbol names.now)) (stage_of self.old) line.now.text).remarks) }
         ensures within { IfOk result (λ _. spec.act_fault (stage_of self.old) line.now.text ≡ None) }
-        ensures fails { IfErr result (λ fault. Fails (spec.act_fault (stage_of self.old) line.now.text) fault) }
+        ensures fails { IfErr result (λ fault. FailsGrowing (spec.act_fault (stage_of self.old) line.now.text)
+            (executes (stage_of self.old) line.now.text) fault) }
         ensures kept { IfErr result (λ _. IsKept (stage_of self.new)) }
     {
         let Some(name) = operator else {

@@ -24,8 +24,10 @@ returns-clause-untouched g c =
 pub returns-clause-gives : goal.returns-clause-gives
 returns-clause-gives g c =
     asm_gives (pass_of g.F.Feed.text g.F.Feed.faults c.args.first.now c.read_first.new.feeds)
-    (pass_of g.F.Feed.text g.F.Feed.faults c.args.second.now c.read_second.new.feeds) c.in_ok-symbols.symbols
-    c.in_ok-symbols.ensures c.read_second.result c.read_second.ensures.1
+    (pass_of g.F.Feed.text g.F.Feed.faults c.args.second.now c.read_second.new.feeds)
+    (outputs_of g.S.Sink g.T.Sink g.U.Sink c.args.object.now c.args.listing.now c.args.messages.now)
+    (outputs_of g.S.Sink g.T.Sink g.U.Sink c.read_second.new.object c.read_second.new.listing c.read_second.new.messages)
+    c.in_ok-symbols.symbols c.in_ok-symbols.ensures c.read_second.result c.read_second.ensures.1
 
 pub returns-in_err-symbols-clause-runs : goal.returns-in_err-symbols-clause-runs
 returns-in_err-symbols-clause-runs g c =

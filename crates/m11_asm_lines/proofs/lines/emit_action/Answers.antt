@@ -10,8 +10,8 @@ emit_operation-requires-clause-fields c =
     let line = c.args.line.now.text in
     c.requires.fields ∙ ap (action_fields c.args.table.now line) c.in-Operate.is
 
-pub returns-in-Operate : goal.returns-in-Operate
-returns-in-Operate c =
+pub returns-in-Operate-clause-emits : goal.returns-in-Operate-clause-emits
+returns-in-Operate-clause-emits c =
     let line = c.args.line.now.text in
     let P : Action → Type 0 = λ action. IfOk c.emit_operation.result (λ x. c.emit_operation.new.emission
     ≡ followed_by c.args.emission.now (emission_by c.args.map.now c.args.table.now line

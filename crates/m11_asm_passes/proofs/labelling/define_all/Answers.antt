@@ -4,10 +4,10 @@ use Rattle.m11_asm_rules.specs.Labels.{labels_flags, with_labels}
 use Rattle.m11_asm_rules.specs.Limits.{has_too_many, most_names}
 use Rattle.m11_asm_rules.specs.SymbolUses.{label_uses}
 use Rattle.m11_asm_rules.specs.Tables.{Table}
-use Rattle.m11_asm_lines.specs.Labels.{AreFlags, FitsUpToLabel}
+use Rattle.m11_asm_lines.specs.Labels.{AreFlags, FitsUpToDefined}
 use Rattle.m11_asm_lines.specs.Moved.{moved_flags}
 use Rattle.m11_asm_lines.proofs.Room.{few_of_both}
-use Rattle.m11_asm_lines.specs.Counting.{names_counted, with_counted}
+use Rattle.m11_asm_lines.specs.Counting.{FitsUpToCounted, names_counted, with_counted}
 use Rattle.m11_asm_lines.specs.declared.counting.Counting.{Counting}
 use Rattle.m11_scan_statements.specs.declared.labels.Label.{Label}
 use Rattle.m11_asm_lines.proofs.Refusals.{handed_on}
@@ -41,8 +41,7 @@ returns-clause-stand c =
 pub returns-in_err-add_labels-clause-limits_first : goal.returns-in_err-add_labels-clause-limits_first
 returns-in_err-add_labels-clause-limits_first c =
     let P : AsmFault → Type 0 = λ fault. fault ≡ NoMemory → FitUpToOne c.args.counting.now c.args.pass.now c.args.line.now.text in
-    let L : List Label → Type 0 = λ labels. FitsUpToLabel labels (λ (some : List Label).
-    length (names_counted (with_counted (flat_map (label_uses c.args.line.now.text) some) c.args.counting.now)) ≤ most_names) in
+    let L : List Label → Type 0 = λ labels. FitsUpToCounted c.args.line.now.text labels c.args.counting.now in
     handed_on P c.in_err-add_labels.field-0.0 c.from_residual.result
     (λ none. inl (subst L c.requires (c.in_err-add_labels.ensures.limit_first none)))
     c.from_residual.ensures.1
@@ -51,8 +50,7 @@ pub returns-in_err-flags-clause-limits_first : goal.returns-in_err-flags-clause-
 returns-in_err-flags-clause-limits_first c =
     let P : AsmFault → Type 0 = λ fault. fault ≡ NoMemory → FitUpToOne c.args.counting.now c.args.pass.now c.args.line.now.text in
     let G : Counting → Type 0 = λ g. length (names_counted g) ≤ most_names in
-    let L : List Label → Type 0 = λ labels. FitsUpToLabel labels (λ (some : List Label).
-    has_too_many (with_labels c.args.line.now.text c.args.pass.now some) ≡ false) in
+    let L : List Label → Type 0 = λ labels. FitsUpToDefined c.args.line.now.text labels c.args.pass.now in
     let all = c.in_ok-add_labels.ensures.counts
     ∙ ap (λ (labels : List Label). with_counted (flat_map (label_uses c.args.line.now.text) labels) c.args.counting.now) c.requires in
     handed_on P c.in_err-flags.field-0.0 c.from_residual-in_err-flags.result

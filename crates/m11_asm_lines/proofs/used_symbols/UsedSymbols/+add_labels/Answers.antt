@@ -1,11 +1,8 @@
-use Rattle.std.proofs.Common.{◌≡◌, ◌≤◌, List, flat_map, length, refl}
-use Rattle.m11_asm_rules.specs.Limits.{most_names}
+use Rattle.std.proofs.Common.{◌≡◌, refl}
 use Rattle.m11_asm_rules.specs.SymbolUses.{label_uses}
 use Rattle.m11_asm_lines.proofs.Gathering.{failed_item, first_label, item_then, later_label}
 use Rattle.m11_asm_lines.proofs.Refusals.{handed_on, refused_so}
-use Rattle.m11_asm_lines.specs.Labels.{FitsUpToLabel}
-use Rattle.m11_asm_lines.specs.UsedSymbols.{with_all}
-use Rattle.m11_scan_statements.specs.declared.labels.Label.{Label}
+use Rattle.m11_asm_lines.specs.Labels.{FitsUpToName}
 use Rattle.m11_asm_faults.specs.declared.fault.AsmFault.{AsmFault}
 use Rattle.m11_asm_faults.specs.declared.fault.AsmFault.TheVariants.{NoMemory}
 use Rattle.m11_asm_lines.proofs.used_symbols.UsedSymbols.+add_labels.Goals as goal
@@ -17,11 +14,10 @@ returns-in_err-add_label-in-len1-up-clause-adds t c =
 
 pub returns-in_err-add_label-in-len1-up-clause-limit_first : goal.returns-in_err-add_label-in-len1-up-clause-limit_first
 returns-in_err-add_label-in-len1-up-clause-limit_first t c =
-    let P : AsmFault → Type 0 = λ fault. fault ≡ NoMemory → FitsUpToLabel c.args.labels.now (λ (some : List Label).
-    length (with_all (flat_map (label_uses c.args.line.now.text) some) c.args.self.now).names ≤ most_names) in
+    let P : AsmFault → Type 0 = λ fault. fault ≡ NoMemory → FitsUpToName c.args.line.now.text c.args.labels.now c.args.self.now in
     handed_on P c.in_err-add_label-in-len1-up.field-0.0 c.from_residual.result
-    (λ none. first_label (label_uses c.args.line.now.text) c.args.labels.now _ c.args.self.now c.in-len1-up.len_at_least
-    (c.in_err-add_label-in-len1-up.ensures.limit_first none))
+    (λ none. first_label c.args.line.now.text c.args.labels.now _ c.args.self.now c.in-len1-up.len_at_least
+    c.in_err-add_label-in-len1-up.ensures.names (c.in_err-add_label-in-len1-up.ensures.limit_first none))
     c.from_residual.ensures.1
 
 pub returns-in_ok-add_label-in-len1-up-clause-adds : goal.returns-in_ok-add_label-in-len1-up-clause-adds
@@ -32,6 +28,6 @@ returns-in_ok-add_label-in-len1-up-clause-adds t c =
 pub returns-in_ok-add_label-in-len1-up-clause-limit_first : goal.returns-in_ok-add_label-in-len1-up-clause-limit_first
 returns-in_ok-add_label-in-len1-up-clause-limit_first t c =
     refused_so c.add_labels.result _ _
-    (later_label (label_uses c.args.line.now.text) c.args.labels.now _ c.args.self.now c.add_label.new.self
+    (later_label c.args.line.now.text c.args.labels.now _ c.args.self.now c.add_label.new.self
     c.in-len1-up.len_at_least c.in_ok-add_label-in-len1-up.ensures.adds)
     c.add_labels.ensures.limit_first

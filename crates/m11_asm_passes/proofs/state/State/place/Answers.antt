@@ -4,9 +4,8 @@ use Rattle.m11_scan.specs.Views.{bits_of}
 use Rattle.m11_unfold_rules.specs.Taking.{Live}
 use Rattle.m11_asm_rules.specs.Contents.{Emission}
 use Rattle.m11_asm_lines.specs.Lines.{flags_from}
-use Rattle.m11_asm_passes.specs.Faults.{Fails}
-use Rattle.m11_asm_passes.specs.Refusals.{line_fault}
-use Rattle.m11_asm_passes.proofs.Assembling.{begins_still, placed_so, places_fails}
+use Rattle.m11_asm_passes.specs.Faults.{FailsAtLine}
+use Rattle.m11_asm_passes.proofs.Assembling.{begins_still, emit_fails, placed_so, places_fails}
 use Rattle.m11_asm_passes.proofs.Blanks.{blank_places}
 use Rattle.m11_asm_passes.specs.Begun.{States}
 use Rattle.m11_asm_passes.specs.Blank.{IsBlank}
@@ -37,13 +36,27 @@ returns-in_err-placed-clause-places c =
     let old = pass_state_of c.args.self.now in
     let new = pass_state_of c.apply.new.self in
     let fault = c.in_err-placed.field-0.0 in
-    let F : Live → Type 0 = λ l. Fails (line_fault map old.table old.counting l old.unfolder.stage) fault in
+    let F : Live → Type 0 = λ l. FailsAtLine map old.table old.counting l old.unfolder.stage fault in
     places_fails map (live_in c.args.placed.now.live) old.unfolder.stage old new fault _ c.from_residual-in_err-placed.result
     (subst F c.begin.ensures.same
     (c.in_err-placed.ensures.finishes old
     (begins_still map (live_in c.begin.new.live) old (pass_state_of c.begin.new.self) c.begin.new.live.operation c.in_ok-begun.begun
     c.emit_line.new.emission c.in_ok-begun.ensures.begins)))
     c.from_residual-in_err-placed.ensures.1
+
+-- for what the line emits
+pub returns-in_err-emit_line-clause-places : goal.returns-in_err-emit_line-clause-places
+returns-in_err-emit_line-clause-places c =
+    let map = c.args.map.now in
+    let old = pass_state_of c.args.self.now in
+    let new = record (pass_state_of c.begin.new.self) { emission = c.emit_line.new.emission } in
+    let fault = c.in_err-emit_line.field-0.0 in
+    let F : Live → Type 0 = λ l. FailsAtLine map old.table old.counting l old.unfolder.stage fault in
+    places_fails map (live_in c.args.placed.now.live) old.unfolder.stage old new fault _ c.from_residual-in_err-emit_line.result
+    (subst F c.begin.ensures.same
+    (emit_fails map (live_in c.begin.new.live) old (pass_state_of c.begin.new.self) c.begin.new.live.operation c.in_ok-begun.begun
+    c.in_ok-begun.ensures.begins fault c.in_err-emit_line.ensures.refuses c.in_err-emit_line.ensures.selects))
+    c.from_residual-in_err-emit_line.ensures.1
 
 pub returns-clause-places : goal.returns-clause-places
 returns-clause-places c =
