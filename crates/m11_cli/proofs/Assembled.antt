@@ -15,7 +15,7 @@ use Rattle.m11_asm.specs.declared.done.AsmDone.{AsmDone}
 use Rattle.m11_cli.proofs.Sources.{give, none, one, seen}
 
 module _ {F : Type 0} (text : F → Option Text) (faults : F → ℕ) where
-  have : (olds news : List F) (reading : Reading) → HaveReading text faults olds news reading
+  pub have : (olds news : List F) (reading : Reading) → HaveReading text faults olds news reading
       → HaveReading (λ s. s.text) (λ s. s.faults) (seen text faults olds) (seen text faults news) reading
   have olds news reading h = (none text faults olds news h.0, h.1, give text faults olds h.1 h.2, h.3)
 

@@ -6,7 +6,9 @@ use Rattle.m11_base.specs.Feed.{Text}
 use Rattle.m11_scan.specs.Line.{SourceLine}
 use Rattle.m11_scan.specs.declared.fault.LineFault.{LineFault}
 use Rattle.m11_scan_line_laws.specs.Extents.{GaveAll, GaveLines, GavePast, GaveTill, GaveTo}
-use Rattle.m11_asm.specs.Extents.{AsmGives, GivesToEnd, GivesToFault, GivesToStop, SecondGives}
+use Rattle.m11_asm.specs.Extents.{AsmGives, GivesToEnd, GivesToFault, GivesToLack, LacksWriting, SecondGives, StopsWriting}
+use Rattle.m11_base_writes.specs.Outputs.{Outputs, Write}
+use Rattle.m11_cli.proofs.Assembled.{have}
 use Rattle.m11_asm.specs.Extents as extents
 use Rattle.m11_asm.specs.Program.{Program, program_of}
 use Rattle.m11_asm.specs.declared.done.AsmDone.{AsmDone}
@@ -78,38 +80,57 @@ module _ {F : Type 0} (text : F → Option Text) (faults : F → ℕ) where
   to_end olds news names counting lines (extents.GivesToEnd.WithoutEnd source live gave) =
       extents.GivesToEnd.WithoutEnd source live (gave_all olds news source gave)
 
-  to_stop : (olds news : List F) (names : Map) (counting : Counting)
-      → GivesToStop (pass_of text faults olds news) names counting
-      → GivesToStop (pass_of (λ s. s.text) (λ s. s.faults) (seen text faults olds) (seen text faults news)) names counting
-  to_stop olds news names counting (extents.GivesToStop.InLine source lines stage live gave) =
-      extents.GivesToStop.InLine source lines stage live (gave_lines olds news source gave)
-  to_stop olds news names counting (extents.GivesToStop.AfterAll source lines live gave) =
-      extents.GivesToStop.AfterAll source lines live (gave_all olds news source gave)
+  to_lack : (olds news : List F) (names : Map) (counting : Counting)
+      → GivesToLack (pass_of text faults olds news) names counting
+      → GivesToLack (pass_of (λ s. s.text) (λ s. s.faults) (seen text faults olds) (seen text faults news)) names counting
+  to_lack olds news names counting (extents.GivesToLack.AtStart gave) = extents.GivesToLack.AtStart (gave_lines olds news [] gave)
+  to_lack olds news names counting (extents.GivesToLack.InLine source lines may_lack gave) =
+      extents.GivesToLack.InLine source lines may_lack (gave_lines olds news source gave)
 
   to_fault : (olds news : List F) (names : Map) (counting : Counting) (stopped : AsmFault)
       → GivesToFault (pass_of text faults olds news) names counting stopped
       → GivesToFault (pass_of (λ s. s.text) (λ s. s.faults) (seen text faults olds) (seen text faults news)) names counting stopped
   to_fault olds news names counting fault.Read h = (h.0, h.1, h.2, gave_till olds news h.0 h.3)
   to_fault olds news names counting fault.TooMuchSource h = (h.0, h.1, h.2, h.3, gave_past olds news h.0 h.3 h.4)
-  to_fault olds news names counting fault.NoMemory h = to_stop olds news names counting h
-  to_fault olds news names counting (fault.Write output) h = to_stop olds news names counting h
+  to_fault olds news names counting fault.NoMemory h = to_lack olds news names counting h
+  to_fault olds news names counting (fault.Write output) h = absurd h
   to_fault olds news names counting fault.TooManySymbols h = (h.0, h.1, h.2, gave_lines olds news h.0 h.3)
   to_fault olds news names counting fault.TooManySections h = (h.0, h.1, h.2, gave_lines olds news h.0 h.3)
   to_fault olds news names counting (fault.Unfold inner) h = (h.0, h.1, h.2, gave_lines olds news h.0 h.3)
 
-  second : (olds news : List F) (program : Program) (result : Result AsmDone AsmFault)
-      → SecondGives (pass_of text faults olds news) program result
-      → SecondGives (pass_of (λ s. s.text) (λ s. s.faults) (seen text faults olds) (seen text faults news)) program result
-  second olds news program (Ok done) h = (h.0, to_end olds news program.map Definitions h.0 h.1)
-  second olds news program (Err stopped) h = to_fault olds news program.map Definitions stopped h
+  stops : (olds news : List F) (program : Program) (Stop : List Write → Type 0)
+      → StopsWriting (pass_of text faults olds news) program Stop
+      → StopsWriting (pass_of (λ s. s.text) (λ s. s.faults) (seen text faults olds) (seen text faults news)) program Stop
+  stops olds news program Stop (extents.StopsWriting.InLine source among gave) =
+      extents.StopsWriting.InLine source among (gave_lines olds news source gave)
+  stops olds news program Stop (extents.StopsWriting.AtEnd reading lines ended reads ends gave stop) =
+      extents.StopsWriting.AtEnd reading lines ended (have text faults olds news reading reads) ends
+      (to_end olds news program.map Definitions lines gave) stop
 
-  pub asm_gives : (olds news again later : List F) (result : Result AsmDone AsmFault)
-      → AsmGives (pass_of text faults olds news) (pass_of text faults again later) result
+  lacks : (olds news : List F) (program : Program) (old new : Outputs) → LacksWriting (pass_of text faults olds news) program old new
+      → LacksWriting (pass_of (λ s. s.text) (λ s. s.faults) (seen text faults olds) (seen text faults news)) program old new
+  lacks olds news program old new (extents.LacksWriting.AtStart gave same) = extents.LacksWriting.AtStart (gave_lines olds news [] gave) same
+  lacks olds news program old new (extents.LacksWriting.InLine source stop gave) =
+      extents.LacksWriting.InLine source stop (gave_lines olds news source gave)
+  lacks olds news program old new (extents.LacksWriting.AtEnd reading lines ended reads ends gave stop) =
+      extents.LacksWriting.AtEnd reading lines ended (have text faults olds news reading reads) ends
+      (to_end olds news program.map Definitions lines gave) stop
+
+  second : (olds news : List F) (program : Program) (old new : Outputs) (result : Result AsmDone AsmFault)
+      → SecondGives (pass_of text faults olds news) program old new result
+      → SecondGives (pass_of (λ s. s.text) (λ s. s.faults) (seen text faults olds) (seen text faults news)) program old new result
+  second olds news program old new (Ok done) h = (h.0, to_end olds news program.map Definitions h.0 h.1)
+  second olds news program old new (Err fault.NoMemory) h = lacks olds news program old new h
+  second olds news program old new (Err (fault.Write output)) h = stops olds news program _ h
+  second olds news program old new (Err stopped) h = to_fault olds news program.map Definitions stopped h
+
+  pub asm_gives : (olds news again later : List F) (old new : Outputs) (result : Result AsmDone AsmFault)
+      → AsmGives (pass_of text faults olds news) (pass_of text faults again later) old new result
       → AsmGives (pass_of (λ s. s.text) (λ s. s.faults) (seen text faults olds) (seen text faults news))
-      (pass_of (λ s. s.text) (λ s. s.faults) (seen text faults again) (seen text faults later)) result
-  asm_gives olds news again later (Ok done) h =
-      (h.0, to_end olds news empty_map none_used h.0 h.1, second again later (program_of (givens h.0)) (Ok done) h.2)
-  asm_gives olds news again later (Err stopped) (inl h) =
+      (pass_of (λ s. s.text) (λ s. s.faults) (seen text faults again) (seen text faults later)) old new result
+  asm_gives olds news again later old new (Ok done) h =
+      (h.0, to_end olds news empty_map none_used h.0 h.1, second again later (program_of (givens h.0)) old new (Ok done) h.2)
+  asm_gives olds news again later old new (Err stopped) (inl h) =
       inl (to_fault olds news empty_map none_used stopped h.0, ap (seen text faults) h.1)
-  asm_gives olds news again later (Err stopped) (inr h) =
-      inr (h.0, to_end olds news empty_map none_used h.0 h.1, second again later (program_of (givens h.0)) (Err stopped) h.2)
+  asm_gives olds news again later old new (Err stopped) (inr h) =
+      inr (h.0, to_end olds news empty_map none_used h.0 h.1, second again later (program_of (givens h.0)) old new (Err stopped) h.2)

@@ -84,7 +84,8 @@ pub record Assembles (asm : AsmTask) (old new : Store) (reported reported' : Out
       (pass_of (λ s. s.text) (λ s. s.faults) second second')
       (outputs object listing reported) (outputs object' listing' reported') result
   pub gives : AsmGives (pass_of (λ s. s.text) (λ s. s.faults) first first')
-      (pass_of (λ s. s.text) (λ s. s.faults) second second') result
+      (pass_of (λ s. s.text) (λ s. s.faults) second second')
+      (outputs object listing reported) (outputs object' listing' reported') result
   pub kept : new.files ≡ keeping_some got asm.listing listing'
       (keeping asm.object.now (got object') (creating (asm_outputs asm) old.files))
   pub opened : new.refusals ≡ old.refusals

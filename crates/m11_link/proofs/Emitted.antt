@@ -190,8 +190,8 @@ none_written plan before e = ap (λ parts. parts_writes (planned plan) parts) e
 -- the writes after further parts are those so far, then the front if it wasn't written yet, and then those of the further parts
 all_split : (plan : PlanTables) (before parts : List Part) (b : Bool) (ws : List Write)
     → ws ≡ reported_all (planned plan) before (held_text (planned plan) before) parts → (b ≡ false → before ≡ [])
-    → written plan true (before ++ parts)
-    ≡ written plan b before ++ ((if b then [] else front_writes (planned plan)) ++ ws)
+    → written (planned plan) true (before ++ parts)
+    ≡ written (planned plan) b before ++ ((if b then [] else front_writes (planned plan)) ++ ws)
 all_split plan before parts true ws e first =
     ap (λ these. front_writes (planned plan) ++ these) (parts_more (planned plan) before parts)
     ∙ sym (append_assoc (front_writes (planned plan)) (parts_writes (planned plan) before) _)
@@ -212,7 +212,7 @@ stands_first plan s k t b f = record {
   planned_so = ap (λ x. x.plan) t;
   defined = ap (λ x. x.defined) t;
   held = ap (λ x. x.held) t;
-  messages = ap (λ x. x.messages) t ∙ ap (λ x. counted 0 (written plan x [])) (sym b);
+  messages = ap (λ x. x.messages) t ∙ ap (λ x. counted 0 (written (planned plan) x [])) (sym b);
   begun = λ e. refl;
   fault = f;
 }
@@ -231,9 +231,9 @@ module _ (plan : PlanTables) (before parts : List Part) (ws : ReporterState → 
   abbrev made : List Write
   made = begin_writes s ++ ws (begun_reporting s)
 
-  split : written plan true (before ++ parts) ≡ written plan s.has_begun before ++ made
+  split : written (planned plan) true (before ++ parts) ≡ written (planned plan) s.has_begun before ++ made
   split = all_split plan before parts s.has_begun (ws (begun_reporting s)) (makes.reported (begun_reporting s) holds_begun) stands.begun
-      ∙ ap (λ p. written plan s.has_begun before
+      ∙ ap (λ p. written (planned plan) s.has_begun before
       ++ ((if s.has_begun then [] else front_writes (planned p)) ++ ws (begun_reporting s))) (sym stands.planned_so)
 
   stands_after : (s' : EmitState) → first_fault before parts ≡ None → s'.known ≡ known_of (before ++ parts)
@@ -251,16 +251,16 @@ module _ (plan : PlanTables) (before parts : List Part) (ws : ReporterState → 
         messages = ap (λ x. x.messages) t ∙ makes.counts (begun_reporting s)
             ∙ ap (λ n. counted n (ws (begun_reporting s))) (begun_counts s.has_begun s.reporting front
             ∙ ap (λ n. counted n (begin_writes s)) stands.messages)
-            ∙ counted-append (counted 0 (written plan s.has_begun before)) (begin_writes s) (ws (begun_reporting s))
-            ∙ counted-append 0 (written plan s.has_begun before) made
+            ∙ counted-append (counted 0 (written (planned plan) s.has_begun before)) (begin_writes s) (ws (begun_reporting s))
+            ∙ counted-append 0 (written (planned plan) s.has_begun before) made
             ∙ ap (λ these. counted 0 these) (sym split)
-            ∙ ap (λ x. counted 0 (written plan x (before ++ parts))) (sym b);
+            ∙ ap (λ x. counted 0 (written (planned plan) x (before ++ parts))) (sym b);
         begun = λ e. absurd (true≢false (sym b ∙ e));
         fault = f ∙ stands.fault;
       }
 
   went_on : (Went : List Write → Type 0) → Went made
-      → GoesOn Went (written plan s.has_begun before) (written plan true (before ++ parts))
+      → GoesOn Went (written (planned plan) s.has_begun before) (written (planned plan) true (before ++ parts))
   went_on Went w = record { more = made; split = split; went = w }
 
   -- if parts have no fault, the result of making their writes is a result of accepting them

@@ -40,7 +40,7 @@ transfer plan = to_product (tape_block (planned plan).transfer []) ∷ []
 
 all_written : (plan : PlanTables) (before : List Part) (b : Bool) (ws : List Write) → (b ≡ false → before ≡ [])
     → link_writes (planned plan) before
-    ≡ written plan b before ++ ((if b then [] else front_writes (planned plan)) ++ transfer plan)
+    ≡ written (planned plan) b before ++ ((if b then [] else front_writes (planned plan)) ++ transfer plan)
 all_written plan before true ws first = refl
 all_written plan before false ws first =
     ap (λ these. (front_writes (planned plan) ++ these) ++ transfer plan) (none_written plan before (first refl))
@@ -58,20 +58,20 @@ module _ {seen : EmitState} (plan : PlanTables) (before : List Part) (s : EmitSt
     begun_plan = (begun_holds plan before seen.has_begun seen.reporting (front_writes (planned seen.reporting.plan))
         (record { planned_so = now.planned_so; defined = now.defined; held = now.held })).planned_so
 
-    split : link_writes (planned plan) before ≡ written plan seen.has_begun before ++ made
+    split : link_writes (planned plan) before ≡ written (planned plan) seen.has_begun before ++ made
     split = all_written plan before seen.has_begun made now.begun
-        ∙ ap₂ (λ p q. written plan seen.has_begun before
+        ∙ ap₂ (λ p q. written (planned plan) seen.has_begun before
         ++ ((if seen.has_begun then [] else front_writes (planned p)) ++ transfer q)) (sym now.planned_so) (sym begun_plan)
 
     went_on : (Went : List Write → Type 0) → Went made
-        → GoesOn Went (written plan seen.has_begun before) (link_writes (planned plan) before)
+        → GoesOn Went (written (planned plan) seen.has_begun before) (link_writes (planned plan) before)
     went_on Went h = record { more = made; split = split; went = h }
 
     went_flushing : (Went : List Write → Type 0) → Went (made ++ flushes)
-        → GoesOn Went (written plan seen.has_begun before) (link_writes (planned plan) before ++ flushes)
+        → GoesOn Went (written (planned plan) seen.has_begun before) (link_writes (planned plan) before ++ flushes)
     went_flushing Went h = record {
       more = made ++ flushes;
-      split = ap (λ ws. ws ++ flushes) split ∙ append_assoc (written plan seen.has_begun before) made flushes;
+      split = ap (λ ws. ws ++ flushes) split ∙ append_assoc (written (planned plan) seen.has_begun before) made flushes;
       went = h;
     }
 
@@ -80,9 +80,9 @@ module _ {seen : EmitState} (plan : PlanTables) (before : List Part) (s : EmitSt
     counts done e = e
         ∙ begun_counts seen.has_begun seen.reporting (front_writes (planned seen.reporting.plan))
         ∙ ap (λ n. counted n (begin_writes seen)) now.messages
-        ∙ counted-append 0 (written plan seen.has_begun before) (begin_writes seen)
-        ∙ counted-append 0 (written plan seen.has_begun before ++ begin_writes seen) (transfer (begun_reporting seen).plan)
-        ∙ ap (λ ws. counted 0 ws) (append_assoc (written plan seen.has_begun before) (begin_writes seen)
+        ∙ counted-append 0 (written (planned plan) seen.has_begun before) (begin_writes seen)
+        ∙ counted-append 0 (written (planned plan) seen.has_begun before ++ begin_writes seen) (transfer (begun_reporting seen).plan)
+        ∙ ap (λ ws. counted 0 ws) (append_assoc (written (planned plan) seen.has_begun before) (begin_writes seen)
         (transfer (begun_reporting seen).plan) ∙ sym split)
 
     abbrev Ended : Outputs → Outputs → EmitState → Result LinkDone LinkFault → Type 0

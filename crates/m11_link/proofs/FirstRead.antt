@@ -1,8 +1,9 @@
 -- The loops of the first pass.
-use Rattle.std.proofs.Common.{◌≡◌, ◌∙◌, ℕ, ◌+◌, ◌<◌, ◌≤◌, Bool, true, false, if◌then◌else◌, List, [], ◌∷◌, ◌++◌, length, get_or, set, Option, Some, None, Result, Ok, Err, refl, sym, ap, subst, append_assoc}
+use Rattle.std.proofs.Common.{◌≡◌, ◌∙◌, ℕ, ◌+◌, ◌<◌, ◌≤◌, Bool, true, false, if◌then◌else◌, List, [], ◌∷◌, ◌++◌, length, get_or, set, Option, Some, None, Result, Ok, Err, IfErr, inl, inr, refl, sym, ap, subst, append_assoc, ◌≢◌}
 use Rattle.std.proofs.lemmas.List.{append-nil}
 use Rattle.m11_base.specs.Feed.{Text}
 use Rattle.m11_obj_blocks.specs.declared.block_fault.BlockFault.{BlockFault}
+use Rattle.m11_obj_blocks.specs.declared.block_fault.BlockFault.TheVariants as block
 use Rattle.m11_obj_blocks.specs.Blocks.{first_block, why_of}
 use Rattle.m11_obj_blocks.specs.Limited.{EndsBetween, Reads, Stops, most_bytes, position}
 use Rattle.m11_obj.specs.Reading.{IsRecord}
@@ -16,11 +17,12 @@ use Rattle.m11_link_layout.specs.Layout.{LayoutState, LayoutAfter, AcceptsBlock,
 use Rattle.m11_link_layout.specs.declared.fault.LinkFault.{LinkFault}
 use Rattle.m11_link_layout.specs.declared.fault.LinkFault.TheVariants as fault
 use Rattle.m11_base_writes.specs.Passes.{pass_of}
-use Rattle.m11_link.specs.FirstPass.{LaysOut, LaysOutObject, Reaches, ReadsFirst, LayoutBetween}
-use Rattle.m11_link.specs.Objects.{Item, AreItems, BlockOf, ObjectEnds, Refused, GivesItems, BeginsItems, ObjectItems, taken, accepted_item, unless_too_large}
+use Rattle.m11_link.specs.FirstPass.{AtBlock, LaysOut, LaysOutObject, PlansFirst, Reaches, ReadsFirst, LayoutBetween}
+use Rattle.m11_link.specs.Objects.{Item, AreItems, BlockOf, ObjectEnds, Refused, GivesItems, ObjectItems, taken, unless_too_large}
 use Rattle.m11_link.specs.Objects as objects
 use Rattle.m11_base.proofs.FeedsRead.{SoFar, begin, all_read, failed_here, given_more, none_failed, read_more}
 use Rattle.m11_link.proofs.ItemsAccepted.{Decides, bind_on, bind_stops, block_decides, block_taken, decides_more, decides_then, end_decides, end_taken, ends_again, ends_first, fault_after, one_taken, accepted_after}
+use Rattle.m11_link.proofs.Room.{at_block, at_feed, has_room}
 use Rattle.m11_link.proofs.Steady.{objects_come}
 use Rattle.m11_link.proofs.ObjectsRead.{Walked, StopsObject, walk_begins, walk_ends, walk_more, walk_stops, walk_whole}
 
@@ -46,12 +48,25 @@ laid_first text faults bottom before layout s = record {
 }
 
 -- if the items of an object decide a fault, this fault is a result of laying out the object
-object_decided : (text : Option Text) (faults faults' bottom : ℕ) (before : List Part) (layout : LayoutState)
+object_decided : (text text' : Option Text) (faults faults' bottom : ℕ) (before : List Part) (layout : LayoutState)
     (items : List Item) (stopped : LinkFault) → faults' ≡ faults → GivesItems text items → Decides before items stopped
-    → LaysOutObject text faults faults' bottom before layout (Err stopped)
-object_decided text faults faults' bottom before layout items fault.Read same g d = absurd d
-object_decided text faults faults' bottom before layout items fault.NoMemory same g d = same
-object_decided text faults faults' bottom before layout items stopped same g d = (same, items, g, d)
+    → (stopped ≡ fault.NoMemory → AtBlock text text' before)
+    → LaysOutObject text text' faults faults' bottom before layout (Err stopped)
+object_decided text text' faults faults' bottom before layout items fault.Read same g d at = absurd d
+object_decided text text' faults faults' bottom before layout items fault.NoMemory same g d at = (same, at refl)
+object_decided text text' faults faults' bottom before layout items stopped same g d at = (same, items, g, d)
+
+-- no fault of a block is `NoMemory`
+pub no_memory : (inner : BlockFault) → fault.NoMemory ≡ of_block inner → ⊥
+no_memory block.Device is = cc
+no_memory block.TooMuch is = cc
+no_memory inner is = cc
+
+-- the end of an object is refused for no memory
+pub no_memory_at_end : (result : Result (Unit {0}) LinkFault) → IfErr result (λ stopped. stopped ≡ fault.BadOrder)
+    → IfErr result (λ stopped. stopped ≢ fault.NoMemory)
+no_memory_at_end (Ok done) is = tt
+no_memory_at_end (Err stopped) is = λ e. let same : fault.BadOrder ≡ fault.NoMemory = sym is ∙ e in cc
 
 module _ (text text1 : Option Text) (faults faults1 room1 bottom : ℕ) (before : List Part) (layout1 : LayoutState)
     (l : Laid text text1 faults faults1 room1 bottom before layout1) (text2 : Option Text) (faults2 room2 : ℕ)
@@ -73,20 +88,27 @@ module _ (text text1 : Option Text) (faults faults1 room1 bottom : ℕ) (before 
       stands = t;
     }
 
+    lacks_here : AcceptsBlock bottom l.parts layout2 content (Err fault.NoMemory) → AtBlock text text2 before
+    lacks_here t = at_block text text2 faults faults2 room2 before l.done content l.parts walked l.taken-is
+        (has_room l.parts content t.0 t.1)
+
     pub laid_refused : (stopped : LinkFault) → AcceptsBlock bottom l.parts layout2 content (Err stopped)
-        → LaysOutObject text faults faults2 bottom before layout2 (Err stopped)
+        → LaysOutObject text text2 faults faults2 bottom before layout2 (Err stopped)
     laid_refused stopped t =
         let items = l.done ++ BlockOf content ∷ [] in
         let whole = walk_whole text text2 faults faults2 room2 items walked in
-        object_decided text faults faults2 bottom before layout2 (items ++ whole.0) stopped walked.took.faults whole.1
+        let P : LinkFault → Type 0 = λ these. AcceptsBlock bottom l.parts layout2 content (Err these) in
+        object_decided text text2 faults faults2 bottom before layout2 (items ++ whole.0) stopped walked.took.faults whole.1
         (decides_more before items whole.0 stopped
         (decides_then before l.parts l.done (BlockOf content ∷ []) stopped l.taken-is
         (block_decides bottom l.parts layout2 content stopped t)))
+        (λ e. lacks_here (subst P e t))
 
   pub laid_ends : Stops first_block (position text1 faults1 room1) (position text2 faults2 room2) EndsBetween
       → (result : Result (Unit {0}) LinkFault) → AcceptsParts bottom l.parts layout2 (EndOfFile ∷ []) result
-      → LaysOutObject text faults faults2 bottom before layout2 result
-  laid_ends s (Ok done) t =
+      → IfErr result (λ stopped. stopped ≢ fault.NoMemory)
+      → LaysOutObject text text2 faults faults2 bottom before layout2 result
+  laid_ends s (Ok done) t n =
       let end = walk_ends text text1 faults faults1 room1 l.done l.walked text2 faults2 room2 s in (
         end.1,
         l.done ++ ObjectEnds ∷ [],
@@ -98,18 +120,19 @@ module _ (text text1 : Option Text) (faults faults1 room1 bottom : ℕ) (before 
           stands = record { stands = t; between = ends_again l.parts t.sound };
         },
       )
-  laid_ends s (Err stopped) t =
+  laid_ends s (Err stopped) t n =
       let end = walk_ends text text1 faults faults1 room1 l.done l.walked text2 faults2 room2 s in
-      object_decided text faults faults2 bottom before layout2 (l.done ++ ObjectEnds ∷ []) stopped end.1 end.0
+      object_decided text text2 faults faults2 bottom before layout2 (l.done ++ ObjectEnds ∷ []) stopped end.1 end.0
       (decides_then before l.parts l.done (ObjectEnds ∷ []) stopped l.taken-is
       (end_decides l.parts stopped t))
+      (λ e. absurd (n e))
 
-  stopped_so : (stopped : LinkFault)
+  stopped_so : (stopped : LinkFault) (inner : BlockFault) → stopped ≡ of_block inner
       → StopsObject text text1 faults faults1 room1 l.done l.walked text2 faults2 room2 stopped
-      → LaysOutObject text faults faults2 bottom before layout2 (Err stopped)
-  stopped_so fault.Read h = (h.0, l.done, h.1, (l.parts, l.taken-is))
-  stopped_so fault.NoMemory h = h.0
-  stopped_so stopped h = (
+      → LaysOutObject text text2 faults faults2 bottom before layout2 (Err stopped)
+  stopped_so fault.Read inner is h = (h.0, l.done, h.1, (l.parts, l.taken-is))
+  stopped_so fault.NoMemory inner is h = absurd (no_memory inner is)
+  stopped_so stopped inner is h = (
     h.0,
     l.done ++ Refused stopped ∷ [],
     h.1,
@@ -119,10 +142,10 @@ module _ (text text1 : Option Text) (faults faults1 room1 bottom : ℕ) (before 
   pub laid_stops : (inner : BlockFault)
       → Stops first_block (position text1 faults1 room1) (position text2 faults2 room2) (why_of inner)
       → (stopped : LinkFault) → stopped ≡ of_block inner
-      → LaysOutObject text faults faults2 bottom before layout2 (Err stopped)
+      → LaysOutObject text text2 faults faults2 bottom before layout2 (Err stopped)
   laid_stops inner s stopped is =
-      let P : LinkFault → Type 0 = λ these. LaysOutObject text faults faults2 bottom before layout2 (Err these) in
-      subst P (sym is) (stopped_so (of_block inner)
+      let P : LinkFault → Type 0 = λ these. LaysOutObject text text2 faults faults2 bottom before layout2 (Err these) in
+      subst P (sym is) (stopped_so (of_block inner) inner refl
       (walk_stops text text1 faults faults1 room1 l.done l.walked text2 faults2 room2 inner s))
 
 -- ---- objects one after another
@@ -173,7 +196,7 @@ module _ {F : Type 0} (text : F → Option Text) (faults : F → ℕ) where
   module _ (initial now : List F) (index bottom : ℕ) (before : List Part) (layout new : LayoutState)
       (l : LaidAll text faults initial now index bottom before layout)
       (inside : index < length now) (d x z : F) (x-is : x ≡ get_or now index d) where
-    pub object_laid : LaysOutObject (text x) (faults x) (faults z) bottom l.reaches.parts new (Ok tt)
+    pub object_laid : LaysOutObject (text x) (text z) (faults x) (faults z) bottom l.reaches.parts new (Ok tt)
         → LaidAll text faults initial (set now index z) (index + 1) bottom before new
     object_laid h = record {
       sources = l.sources ++ h.2.source ∷ [];
@@ -188,7 +211,7 @@ module _ {F : Type 0} (text : F → Option Text) (faults : F → ℕ) where
     }
 
     pub object_stops : (stopped : LinkFault)
-        → LaysOutObject (text x) (faults x) (faults z) bottom l.reaches.parts new (Err stopped)
+        → LaysOutObject (text x) (text z) (faults x) (faults z) bottom l.reaches.parts new (Err stopped)
         → LaysOut (pass_of text faults initial (set now index z)) bottom before new (Err stopped)
     object_stops fault.Read h = (
       l.items ++ h.1,
@@ -205,7 +228,11 @@ module _ {F : Type 0} (text : F → Option Text) (faults : F → ℕ) where
       },
       (h.3.0, accepted_after before l.items h.1 l.reaches.parts l.reaches.taken-is ∙ h.3.1),
     )
-    object_stops fault.NoMemory h = none_failed text faults initial now index l.sources l.feeds inside d x z x-is h
+    object_stops fault.NoMemory h = (
+      none_failed text faults initial now index l.sources l.feeds inside d x z x-is h.0,
+      at_feed text faults initial now index l.sources l.feeds inside d x z x-is before l.items l.reaches.parts l.are
+          l.reaches.taken-is h.1,
+    )
     object_stops stopped h =
         let given = given_more text faults initial now index l.sources l.feeds inside d x z x-is h.2.source h.2.has in
         let others = objects_come given.0 in (
@@ -236,20 +263,22 @@ module _ {F : Type 0} (text : F → Option Text) (faults : F → ℕ) (feeds fee
   pub reading_stops : (stopped : LinkFault) → LaysOut (pass_of text faults feeds feeds') bottom [] layout (Err stopped)
       → ReadsFirst (pass_of text faults feeds feeds') bottom (Err stopped)
   reading_stops fault.Read h = h
-  reading_stops fault.NoMemory h = h
+  reading_stops fault.NoMemory h = (h.0, inl h.1)
   reading_stops stopped h =
       (h.0, h.1, h.2, bind_stops (taken [] h.1) (unless_too_large bottom) stopped h.3)
 
   pub reading_ends : (l : LaysOut (pass_of text faults feeds feeds') bottom [] layout (Ok tt)) (result : Result PlanTables LinkFault)
-      → LayoutEnds bottom l.3.parts result → ReadsFirst (pass_of text faults feeds feeds') bottom result
-  reading_ends l (Ok plan) e = (
-    l.0,
-    l.1,
-    l.2,
-    l.3.parts,
-    bind_on (taken [] l.1) (unless_too_large bottom) l.3.parts l.3.taken-is ∙ fits_is bottom l.3.parts false e.1.fits,
-    e.1,
-  )
+      → LayoutEnds bottom l.3.parts result → PlansFirst (pass_of text faults feeds feeds') bottom result
+  reading_ends l (Ok plan) e = record {
+    parts = l.3.parts;
+    reads = (
+      l.0,
+      l.1,
+      l.2,
+      bind_on (taken [] l.1) (unless_too_large bottom) l.3.parts l.3.taken-is ∙ fits_is bottom l.3.parts false e.1.fits,
+    );
+    is = e.1;
+  }
   reading_ends l (Err fault.TooLarge) e = (
     l.0,
     l.1,
@@ -260,5 +289,5 @@ module _ {F : Type 0} (text : F → Option Text) (faults : F → ℕ) (feeds fee
     where
       none_some : (broken : ModuleFault) → None ≡ Some broken → ⊥
       none_some broken same = cc
-  reading_ends l (Err fault.NoMemory) e = l.0
+  reading_ends l (Err fault.NoMemory) e = (l.0, inr (l.1, l.2, (l.3.parts, l.3.taken-is)))
   reading_ends l (Err stopped) e = absurd e

@@ -86,7 +86,7 @@ parts_taken : (before parts : List Part) → first_fault [] (before ++ parts) �
 parts_taken before parts e =
     ap (λ (o : Option ModuleFault). unless_fault o (before ++ parts)) (rest_sound [] before parts e)
 
-record_read : (content : Result Content RecordFault) → is_ok content ≡ true
+pub record_read : (content : Result Content RecordFault) → is_ok content ≡ true
     → parts_or_fault content ≡ Ok (parts_in content)
 record_read (Ok content) e = refl
 record_read (Err inner) e = absurd cc
@@ -185,6 +185,7 @@ end_decides before stopped h =
 pub block_decides : (bottom : ℕ) (before : List Part) (layout : LayoutState) (bytes : List ℕ) (stopped : LinkFault)
     → AcceptsBlock bottom before layout bytes (Err stopped) → Decides before (BlockOf bytes ∷ []) stopped
 block_decides bottom before layout bytes (fault.Record inner) h = no_record_decides before bytes inner h
+block_decides bottom before layout bytes fault.NoMemory h = tt
 block_decides bottom before layout bytes stopped h = parts_decide before bytes stopped h
 
 -- ---- after other items

@@ -8,6 +8,7 @@ pub mod Ended
 pub mod Steady
 pub mod ItemsAccepted
 pub mod ObjectsRead
+pub mod Room
 pub mod FirstRead
 pub mod Sole
 pub mod SecondRead

@@ -22,7 +22,7 @@ use Rattle.m11_link_text.specs.Findings.{Findings, planned}
 use Rattle.m11_link.specs.Front.{front_writes}
 use Rattle.m11_link.specs.Outputs.{Gains, Stops, StopsBetween, StopsIn}
 use Rattle.m11_base_writes.specs.Outputs.{AreFlushed, Outputs, Write, flushes}
-use Rattle.m11_link.specs.Written.{PlacedText, placed_text, text_writes, with_relocation, symbol_writes, entry_writes, defined_names, parts_writes, link_writes, counted}
+use Rattle.m11_link.specs.Written.{PlacedText, placed_text, text_writes, with_relocation, symbol_writes, entry_writes, defined_names, link_writes, counted, writes_so_far}
 
 -- ---- the state between two records
 
@@ -175,11 +175,9 @@ begun_reporting state =
 abbrev pub with_reporting : ReporterState → EmitState → EmitState
 with_reporting reporting state = record state { reporting = reporting; has_begun = true }
 
--- the writes for these parts: none before the first call that isn't refused; otherwise the front and the output for the parts,
--- except a text that hasn't ended
-abbrev pub written : PlanTables → Bool → List Part → List Write
-written plan has_begun parts =
-    if has_begun then front_writes (planned plan) ++ parts_writes (planned plan) parts else []
+-- the writes for these parts: none before the first call that isn't refused
+abbrev pub written : Findings → Bool → List Part → List Write
+written found has_begun parts = if has_begun then writes_so_far found parts else []
 
 -- the parts have no fault, and `state` is the state of a second pass after them
 pub record EmitAfter (plan : PlanTables) (parts : List Part) (state : EmitState) : Type 0 where
@@ -188,7 +186,7 @@ pub record EmitAfter (plan : PlanTables) (parts : List Part) (state : EmitState)
   pub planned_so : state.reporting.plan ≡ plan
   pub defined : state.reporting.defined ≡ defined_names parts
   pub held : state.reporting.held ≡ held_text (planned plan) parts
-  pub messages : state.reporting.messages ≡ counted 0 (written plan state.has_begun parts)
+  pub messages : state.reporting.messages ≡ counted 0 (written (planned plan) state.has_begun parts)
   pub begun : state.has_begun ≡ false → parts ≡ []
   pub fault : state.fault ≡ None
 
@@ -213,18 +211,18 @@ call_of old new stood stands = record { old = old; new = new; stood = stood; sta
 -- before it has a fault
 abbrev pub StopsInParts : PlanTables → List Part → Outputs → Outputs → EmitState → List Part → LinkFault → Type 0
 StopsInParts plan before old new state parts (fault.Write output) = (first_fault before parts ≡ None)
-    × GoesOn (StopsIn output old new) (written plan state.has_begun before) (written plan true (before ++ parts))
+    × GoesOn (StopsIn output old new) (written (planned plan) state.has_begun before) (written (planned plan) true (before ++ parts))
 StopsInParts plan before old new state parts fault.NoMemory =
     (StopsAtName (first_fault before) parts × (new ≡ old))
     ⊎ ((first_fault before parts ≡ None)
-    × GoesOn (StopsBetween old new) (written plan state.has_begun before) (written plan true (before ++ parts)))
+    × GoesOn (StopsBetween old new) (written (planned plan) state.has_begun before) (written (planned plan) true (before ++ parts)))
 StopsInParts plan before old new state parts stopped = FirstFault before parts stopped × (new ≡ old)
 
 -- parts were accepted, and all output for them is written, except a text that hasn't ended; or they weren't accepted
 abbrev pub AcceptsParts : PlanTables → List Part → Call → List Part → Result (Unit {0}) LinkFault → Type 0
 AcceptsParts plan before call parts (Ok done) = EmitAfter plan (before ++ parts) call.stands
     × (call.stands.has_begun ≡ true)
-    × GoesOn (Gains call.old call.new) (written plan call.stood.has_begun before) (written plan true (before ++ parts))
+    × GoesOn (Gains call.old call.new) (written (planned plan) call.stood.has_begun before) (written (planned plan) true (before ++ parts))
 AcceptsParts plan before call parts (Err stopped) = StopsInParts plan before call.old call.new call.stood parts stopped
 
 -- the block isn't a valid record, and nothing was written; or this is the result for the record's parts
@@ -247,10 +245,10 @@ FailsAgain state state' old new result = (stopped : LinkFault) → state.fault �
 abbrev pub EmitEnds : PlanTables → List Part → Outputs → Outputs → EmitState → Result LinkDone LinkFault → Type 0
 EmitEnds plan parts old new state (Ok done) = (fault_of parts EndOfFile ≡ None)
     × (done.messages ≡ counted 0 (link_writes (planned plan) parts))
-    × GoesOn (Gains old new) (written plan state.has_begun parts) (link_writes (planned plan) parts) × AreFlushed new
+    × GoesOn (Gains old new) (written (planned plan) state.has_begun parts) (link_writes (planned plan) parts) × AreFlushed new
 EmitEnds plan parts old new state (Err (fault.Write output)) = (fault_of parts EndOfFile ≡ None)
-    × GoesOn (StopsIn output old new) (written plan state.has_begun parts) (link_writes (planned plan) parts ++ flushes)
+    × GoesOn (StopsIn output old new) (written (planned plan) state.has_begun parts) (link_writes (planned plan) parts ++ flushes)
 EmitEnds plan parts old new state (Err fault.NoMemory) = (fault_of parts EndOfFile ≡ None)
-    × GoesOn (StopsBetween old new) (written plan state.has_begun parts) (link_writes (planned plan) parts ++ flushes)
+    × GoesOn (StopsBetween old new) (written (planned plan) state.has_begun parts) (link_writes (planned plan) parts ++ flushes)
 EmitEnds plan parts old new state (Err fault.BadOrder) = (fault_of parts EndOfFile ≡ Some rule.BadOrder) × (new ≡ old)
 EmitEnds plan parts old new state (Err stopped) = ⊥

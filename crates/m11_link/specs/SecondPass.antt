@@ -1,5 +1,5 @@
 -- The second pass of a link over its feeds, and the whole run. (This project's own.)
-use Rattle.std.specs.Prelude.{◌≡◌, ◌⊎◌, ℕ, Bool, true, false, List, [], ◌∷◌, ◌++◌, ⊤, Option, None, Result, Ok, Err}
+use Rattle.std.specs.Prelude.{◌≡◌, ◌⊎◌, ℕ, Bool, true, false, List, [], ◌∷◌, ◌++◌, Option, None, Result, Ok, Err}
 use Rattle.m11_base.specs.Devices.{Rises}
 use Rattle.m11_base.specs.Feed.{Text, NoneFailed}
 use Rattle.m11_link_modules.specs.Parts.{Part, EndOfFile}
@@ -9,13 +9,13 @@ use Rattle.m11_link_layout.specs.declared.fault.LinkFault.{LinkFault}
 use Rattle.m11_link_layout.specs.declared.fault.LinkFault.TheVariants as fault
 use Rattle.m11_link.specs.declared.emit.LinkDone.{LinkDone}
 use Rattle.m11_link.specs.Emit.{EmitState, EmitAfter, written}
-use Rattle.m11_link_text.specs.Findings.{planned}
+use Rattle.m11_link_text.specs.Findings.{Findings, findings_of, planned}
 use Rattle.m11_base_writes.specs.Passes.{Pass}
-use Rattle.m11_link.specs.FirstPass.{AreAccepted, ReadsFirst}
+use Rattle.m11_link.specs.FirstPass.{AtBlock, AtFeed, LacksMemory, ReadsFirst}
 use Rattle.m11_link.specs.Objects.{Item, taken, accepted_item, GivesItems, BeginsItems, GiveItems, FailAfter}
 use Rattle.m11_link.specs.Outputs.{Gains, StopsIn, StopsBetween}
 use Rattle.m11_base_writes.specs.Outputs.{AreFlushed, Outputs, Write, flushes}
-use Rattle.m11_link.specs.Written.{counted, link_writes}
+use Rattle.m11_link.specs.Written.{counted, link_writes, writes_so_far}
 
 -- ---- the writes of a pass that stops
 
@@ -27,45 +27,39 @@ begun_by has_begun (item ∷ items) = true
 
 -- the items have no fault after the earlier parts, and exactly this was written since the pass began: the front, and the output for
 -- all parts, except a text that hasn't ended; nothing if the front wasn't written before and there was no item
-pub record WrittenAfter (plan : PlanTables) (has_begun : Bool) (before : List Part) (items : List Item)
+pub record WrittenAfter (found : Findings) (has_begun : Bool) (before : List Part) (items : List Item)
     (old new : Outputs) : Type 0 where
   pub parts : List Part
   pub taken-is : taken before items ≡ Ok parts
-  pub gains : Gains old new (written plan (begun_by has_begun items) parts)
+  pub gains : Gains old new (written found (begun_by has_begun items) parts)
 
 -- one item is refused but none before it, and exactly the writes for the items before it were made
-pub record StopsBefore (plan : PlanTables) (has_begun : Bool) (before : List Part) (items : List Item)
+pub record StopsBefore (found : Findings) (has_begun : Bool) (before : List Part) (items : List Item)
     (stopped : LinkFault) (old new : Outputs) : Type 0 where
   pub done : List Item
   pub item : Item
   pub more : List Item
   pub split : items ≡ done ++ item ∷ more
-  pub exactly : WrittenAfter plan has_begun before done old new
+  pub exactly : WrittenAfter found has_begun before done old new
   pub refused : accepted_item exactly.parts item ≡ Err stopped
 
 -- some prefix of the items has no fault, and the pass stops among the writes of the front and of this prefix
-pub record StopsWithin (Stop : List Write → Type 0) (plan : PlanTables) (before : List Part) (items : List Item) : Type 0
+pub record StopsWithin (Stop : List Write → Type 0) (found : Findings) (before : List Part) (items : List Item) : Type 0
   where
     pub done : List Item
     pub more : List Item
     pub split : items ≡ done ++ more
     pub parts : List Part
     pub taken-is : taken before done ≡ Ok parts
-    pub stops : Stop (written plan true parts)
+    pub stops : Stop (written found true parts)
 
 -- an output failed or memory was refused among the writes for a prefix of the items, which has no fault; or exactly the writes for such
 -- a prefix were made, and the next item was refused
-abbrev pub StopsAt : LinkFault → PlanTables → Bool → List Part → List Item → Outputs → Outputs → Type 0
-StopsAt (fault.Write output) plan has_begun before items old new =
-    StopsWithin (StopsIn output old new) plan before items
-StopsAt fault.NoMemory plan has_begun before items old new = StopsWithin (StopsBetween old new) plan before items
-StopsAt stopped plan has_begun before items old new = StopsBefore plan has_begun before items stopped old new
-
--- if the fault isn't a failed write or refused memory, it is the first fault of the items
-abbrev pub IsOfItems : List Part → List Item → LinkFault → Type 0
-IsOfItems before items (fault.Write output) = ⊤
-IsOfItems before items fault.NoMemory = ⊤
-IsOfItems before items stopped = taken before items ≡ Err stopped
+abbrev pub StopsAt : LinkFault → Findings → Bool → List Part → List Item → Outputs → Outputs → Type 0
+StopsAt (fault.Write output) found has_begun before items old new =
+    StopsWithin (StopsIn output old new) found before items
+StopsAt fault.NoMemory found has_begun before items old new = StopsWithin (StopsBetween old new) found before items
+StopsAt stopped found has_begun before items old new = StopsBefore found has_begun before items stopped old new
 
 -- ---- one object and several objects
 
@@ -78,7 +72,7 @@ pub record Emitted (plan : PlanTables) (has_begun : Bool) (before : List Part) (
   pub stands : EmitAfter plan parts emit
   pub between : fault_of parts EndOfFile ≡ None
   pub begun : emit.has_begun ≡ begun_by has_begun items
-  pub gains : Gains first now (written plan emit.has_begun parts)
+  pub gains : Gains first now (written (planned plan) emit.has_begun parts)
 
 -- the state before some objects in a second pass: the plan, whether the front is written, the parts before these objects, and the
 -- outputs before the whole pass
@@ -96,71 +90,68 @@ abbrev pub EmittedFrom : Start → List Item → Outputs → EmitState → Type 
 EmittedFrom start items now emit = Emitted start.plan start.has_begun start.before items start.first now emit
 
 abbrev pub WrittenFrom : Start → List Item → Outputs → Type 0
-WrittenFrom start items now = WrittenAfter start.plan start.has_begun start.before items start.first now
+WrittenFrom start items now = WrittenAfter (planned start.plan) start.has_begun start.before items start.first now
 
 abbrev pub StopsFrom : LinkFault → Start → List Item → Outputs → Type 0
-StopsFrom stopped start items now = StopsAt stopped start.plan start.has_begun start.before items start.first now
+StopsFrom stopped start items now = StopsAt stopped (planned start.plan) start.has_begun start.before items start.first now
 
-abbrev pub EmitsObject : Option Text → ℕ → ℕ → Start → Outputs → EmitState → Result (Unit {0}) LinkFault → Type 0
-EmitsObject text faults faults' start now emit (Ok done) = (faults' ≡ faults)
+abbrev pub EmitsObject : Option Text → Option Text → ℕ → ℕ → Start → Outputs → EmitState → Result (Unit {0}) LinkFault → Type 0
+EmitsObject text text' faults faults' start now emit (Ok done) = (faults' ≡ faults)
     × (items : List Item) × GivesItems text items × EmittedFrom start items now emit
-EmitsObject text faults faults' start now emit (Err fault.Read) = Rises faults faults'
+EmitsObject text text' faults faults' start now emit (Err fault.Read) = Rises faults faults'
     × (items : List Item) × BeginsItems text items × WrittenFrom start items now
-EmitsObject text faults faults' start now emit (Err stopped) = (faults' ≡ faults)
-    × (items : List Item) × GivesItems text items × IsOfItems start.before items stopped
-    × StopsFrom stopped start items now
+EmitsObject text text' faults faults' start now emit (Err fault.NoMemory) = (faults' ≡ faults)
+    × (items : List Item) × GivesItems text items × StopsFrom fault.NoMemory start items now × AtBlock text text' start.before
+EmitsObject text text' faults faults' start now emit (Err stopped) = (faults' ≡ faults)
+    × (items : List Item) × GivesItems text items × StopsFrom stopped start items now
 
 abbrev pub Emits : {F : Type 0} → Pass F → Start → Outputs → EmitState → Result (Unit {0}) LinkFault → Type 0
 Emits pass start now emit (Ok done) = NoneFailed pass.faults pass.old pass.new
     × (items : List Item) × GiveItems pass.text pass.old items × EmittedFrom start items now emit
 Emits pass start now emit (Err fault.Read) =
     (items : List Item) × FailAfter pass.text pass.faults pass.old pass.new items × WrittenFrom start items now
+Emits pass start now emit (Err fault.NoMemory) = NoneFailed pass.faults pass.old pass.new
+    × (items : List Item) × GiveItems pass.text pass.old items × StopsFrom fault.NoMemory start items now × AtFeed pass start.before
 Emits pass start now emit (Err stopped) = NoneFailed pass.faults pass.old pass.new
-    × (items : List Item) × GiveItems pass.text pass.old items × IsOfItems start.before items stopped
-    × StopsFrom stopped start items now
+    × (items : List Item) × GiveItems pass.text pass.old items × StopsFrom stopped start items now
 
 -- ---- the whole second pass, and the run
 
--- the items have no fault, and the pass stops among the writes of the whole link, or among the flushes after them
-pub record StopsLast (Stop : List Write → Type 0) (plan : PlanTables) (items : List Item) : Type 0 where
-  pub parts : List Part
-  pub taken-is : taken [] items ≡ Ok parts
-  pub stops : Stop (link_writes (planned plan) parts ++ flushes)
+-- these are the writes for a prefix of the items, which has no fault; or those for all items, with the transfer block and the flushes
+pub data AreWrites (found : Findings) (items : List Item) : List Write → Type 0 where
+  SoFar : (done more : List Item) (parts : List Part) → items ≡ done ++ more → taken [] done ≡ Ok parts
+      → AreWrites found items (writes_so_far found parts)
+  All : (parts : List Part) → taken [] items ≡ Ok parts → AreWrites found items (link_writes found parts ++ flushes)
 
--- how a second pass stops: an output failed or memory was refused among the writes for its items or at its end; or an item was
--- refused
-abbrev pub StopsLink : LinkFault → PlanTables → List Item → Outputs → Outputs → Type 0
-StopsLink (fault.Write output) plan items old new =
-    StopsWithin (StopsIn output old new) plan [] items ⊎ StopsLast (StopsIn output old new) plan items
-StopsLink fault.NoMemory plan items old new =
-    StopsWithin (StopsBetween old new) plan [] items ⊎ StopsLast (StopsBetween old new) plan items
-StopsLink stopped plan items old new = StopsBefore plan false [] items stopped old new
-
--- the second pass with a plan: the items have no fault, everything is written, the messages are counted, and tape and map hold
--- nothing back; or a feed failed or an item was refused, and exactly the writes for the earlier items were made; or an output failed
--- or memory was refused, among the writes for the items before the first fault or at the end of the pass, and nothing was written
--- afterwards
-abbrev pub ReadsSecond : {F : Type 0} → Pass F → PlanTables → Outputs → Outputs → Result LinkDone LinkFault → Type 0
-ReadsSecond pass plan old new (Ok done) = NoneFailed pass.faults pass.old pass.new
+-- the second pass with these findings of the first: the items have no fault, everything is written, the messages are counted, and tape
+-- and map hold nothing back; or a feed failed or an item was refused, and exactly the writes for the earlier items were made; or an
+-- output failed in a write, or memory was refused between two writes, where no limit is passed, and nothing was written afterwards
+abbrev pub ReadsSecond : {F : Type 0} → Pass F → Findings → Outputs → Outputs → Result LinkDone LinkFault → Type 0
+ReadsSecond pass found old new (Ok done) = NoneFailed pass.faults pass.old pass.new
     × (items : List Item) × GiveItems pass.text pass.old items
-    × (parts : List Part) × (taken [] items ≡ Ok parts) × Gains old new (link_writes (planned plan) parts)
-    × (done.messages ≡ counted 0 (link_writes (planned plan) parts)) × AreFlushed new
-ReadsSecond pass plan old new (Err fault.Read) =
-    (items : List Item) × FailAfter pass.text pass.faults pass.old pass.new items × AreAccepted [] items
-    × WrittenAfter plan false [] items old new
-ReadsSecond pass plan old new (Err stopped) = NoneFailed pass.faults pass.old pass.new
-    × (items : List Item) × GiveItems pass.text pass.old items × IsOfItems [] items stopped
-    × StopsLink stopped plan items old new
+    × (parts : List Part) × (taken [] items ≡ Ok parts) × Gains old new (link_writes found parts)
+    × (done.messages ≡ counted 0 (link_writes found parts)) × AreFlushed new
+ReadsSecond pass found old new (Err fault.Read) = (items : List Item)
+    × FailAfter pass.text pass.faults pass.old pass.new items × WrittenAfter found false [] items old new
+ReadsSecond pass found old new (Err (fault.Write output)) = NoneFailed pass.faults pass.old pass.new
+    × (items : List Item) × GiveItems pass.text pass.old items
+    × (writes : List Write) × AreWrites found items writes × StopsIn output old new writes
+ReadsSecond pass found old new (Err fault.NoMemory) = NoneFailed pass.faults pass.old pass.new
+    × (items : List Item) × GiveItems pass.text pass.old items
+    × (writes : List Write) × AreWrites found items writes × StopsBetween old new writes × LacksMemory pass
+ReadsSecond pass found old new (Err stopped) = NoneFailed pass.faults pass.old pass.new
+    × (items : List Item) × GiveItems pass.text pass.old items × StopsBefore found false [] items stopped old new
 
--- the run: the first pass returned a plan, and this is the result of the second pass with it; or this is the fault of the first
--- pass, the feeds of the second are unchanged, and `Untouched` holds
+-- the run: the first pass returned the parts of the objects, and this is the result of the second pass with their findings; or this is
+-- the fault of the first pass, the feeds of the second are unchanged, and `Untouched` holds
 abbrev pub LinkRunsOr : {F : Type 0} → Type 0 → Pass F → Pass F → ℕ → Outputs → Outputs → Result LinkDone LinkFault
     → Type 0
-LinkRunsOr Untouched first second bottom old new (Ok done) =
-    (plan : PlanTables) × ReadsFirst first bottom (Ok plan) × ReadsSecond second plan old new (Ok done)
+LinkRunsOr Untouched first second bottom old new (Ok done) = (parts : List Part)
+    × ReadsFirst first bottom (Ok parts) × ReadsSecond second (findings_of bottom parts) old new (Ok done)
 LinkRunsOr Untouched first second bottom old new (Err stopped) =
     (ReadsFirst first bottom (Err stopped) × (second.new ≡ second.old) × Untouched)
-    ⊎ ((plan : PlanTables) × ReadsFirst first bottom (Ok plan) × ReadsSecond second plan old new (Err stopped))
+    ⊎ ((parts : List Part)
+    × ReadsFirst first bottom (Ok parts) × ReadsSecond second (findings_of bottom parts) old new (Err stopped))
 
 -- the run; if the first pass returns a fault, the outputs are unchanged
 abbrev pub LinkRuns : {F : Type 0} → Pass F → Pass F → ℕ → Outputs → Outputs → Result LinkDone LinkFault → Type 0

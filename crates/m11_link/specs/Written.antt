@@ -132,10 +132,13 @@ writes_after found before (part ∷ parts) =
 unfoldable pub parts_writes : Findings → List Part → List Write
 parts_writes found parts = writes_after found [] parts
 
--- the writes of the whole link: messages about undefined globals, the map, the output for the parts, and the transfer block
+-- the writes so far: messages about undefined globals, the map, and the output for these parts, except a text that hasn't ended
+abbrev pub writes_so_far : Findings → List Part → List Write
+writes_so_far found parts = front_writes found ++ parts_writes found parts
+
+-- the writes of the whole link: those for all parts, and the transfer block
 abbrev pub link_writes : Findings → List Part → List Write
-link_writes found parts =
-    (front_writes found ++ parts_writes found parts) ++ to_product (tape_block found.transfer []) ∷ []
+link_writes found parts = writes_so_far found parts ++ to_product (tape_block found.transfer []) ∷ []
 
 -- ---- the number of messages
 

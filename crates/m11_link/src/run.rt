@@ -3,7 +3,7 @@
 ghost use Rattle.std.specs.Prelude.{◌≡◌, None, ℕ, List, is_some};
 ghost use Rattle.m11_link.specs.Objects.{AreItems, Item};
 ghost use Rattle.m11_base_writes.specs.Passes.{pass_of};
-ghost use Rattle.m11_link.specs.FirstPass.{LaysOut, LaysOutObject, ReadsFirst, LayoutBetween};
+ghost use Rattle.m11_link.specs.FirstPass.{LaysOut, LaysOutObject, LayoutBetween, PlansFirst};
 ghost use Rattle.m11_link_layout.specs.Layout.{LayoutAfter};
 ghost use Rattle.m11_link_layout.specs.Plan.{PlanTables};
 ghost use Rattle.m11_link_modules.specs.Parts.{Part, EndOfFile};
@@ -11,6 +11,7 @@ ghost use Rattle.m11_link_modules.specs.Rules.{fault_of};
 ghost use Rattle.m11_link.specs.Emit.{written};
 ghost use Rattle.m11_link.specs.Emit as emitting;
 ghost use Rattle.m11_link.specs.SecondPass.{Emits, EmitsObject, LinkRuns, LinkRunsOr, ReadsSecond, start_at};
+ghost use Rattle.m11_link_text.specs.Findings.{planned};
 ghost use Rattle.m11_link.specs.Outputs.{Gains};
 ghost use Rattle.m11_base_writes.specs.Outputs.{Outputs, outputs_of};
 
@@ -29,7 +30,7 @@ use std::alloc::Global;
 /// those of the rules of modules; `TooLarge` after the last block. They leave the outputs unchanged. Errors of the second pass:
 /// `Write`, after which nothing more is written; `Read`; and those of blocks, records and modules, if the second pass reads other
 /// bytes than the first. All output for the records before such a fault is written, except a text that hasn't ended. `NoMemory`, in
-/// both passes, if memory is refused.
+/// both passes, if memory is refused, but never at a record whose first new module, section or global would pass its limit.
 ///
 /// An output may hold bytes back until it is flushed. Tape and map are flushed after everything is written: after a successful
 /// link they hold nothing back, and a failed flush is a `Write` error of its output.
@@ -65,6 +66,7 @@ pub fn link_run<F: Feed, S: Sink, T: Sink, U: Sink>(
 }
 
 /// Does the same as `link_run`, with this seed for all hash maps of both passes.
+#[tactic(auto, using(crate::proofs::Agreeing::run_with_plan))]
 pub fn link_run_with_seed<F: Feed, S: Sink, T: Sink, U: Sink>(
     alloc: Global,
     seed: Seed,
@@ -104,7 +106,7 @@ fn read_first<F: Feed>(
     feeds: &mut [F],
     bottom: u16,
 ) -> Result<Plan, LinkFault>
-    ensures { ReadsFirst (pass_of F.text F.faults feeds.old feeds.new) bottom result }
+    ensures { PlansFirst (pass_of F.text F.faults feeds.old feeds.new) bottom result }
 {
     let mut layout = Layout::with_seed(alloc, seed, bottom);
     match lay_out(feeds, &mut layout) {
@@ -132,7 +134,7 @@ fn lay_out<F: Feed>(feeds: &mut [F], layout: &mut Layout) -> Result<(), LinkFaul
 // order of the bytes.
 fn lay_out_object<F: Feed>(feed: &mut F, layout: &mut Layout) -> Result<(), LinkFault>
     ensures { (bottom : ℕ) (before : List Part) → LayoutAfter bottom before layout.old
-        → LaysOutObject (F.text feed.old) (F.faults feed.old) (F.faults feed.new) bottom before layout.new result }
+        → LaysOutObject (F.text feed.old) (F.text feed.new) (F.faults feed.old) (F.faults feed.new) bottom before layout.new result }
 {
     let mut reader = BlockReader::new();
     let mut block = Block::new();
@@ -151,7 +153,7 @@ fn read_second<F: Feed, S: Sink, T: Sink, U: Sink>(
     map: &mut Option<T>,
     messages: &mut U,
 ) -> Result<LinkDone, LinkFault>
-    ensures reads { ReadsSecond (pass_of F.text F.faults feeds.old feeds.new) plan
+    ensures reads { ReadsSecond (pass_of F.text F.faults feeds.old feeds.new) (planned plan)
         (outputs_of S.Sink T.Sink U.Sink tape.old map.old messages.old)
         (outputs_of S.Sink T.Sink U.Sink tape.new map.new messages.new) result }
     ensures stays { is_some map.new ≡ is_some map.old }
@@ -179,7 +181,7 @@ fn emit_all<F: Feed, S: Sink, T: Sink, U: Sink>(
         → fault_of before EndOfFile ≡ None
         → Gains first
         (outputs_of S.Sink T.Sink U.Sink tape.old map.old messages.old)
-        (written plan emit.old.has_begun before)
+        (written (planned plan) emit.old.has_begun before)
         → Emits (pass_of F.text F.faults feeds.old feeds.new) (start_at plan emit.old.has_begun before first)
         (outputs_of S.Sink T.Sink U.Sink tape.new map.new messages.new) emit.new result }
     ensures stays { is_some map.new ≡ is_some map.old }
@@ -201,8 +203,8 @@ fn emit_object<F: Feed, S: Sink, T: Sink, U: Sink>(
     ensures emits { (plan : PlanTables) (before : List Part) (first : Outputs) → emitting.EmitAfter plan before emit.old
         → Gains first
         (outputs_of S.Sink T.Sink U.Sink tape.old map.old messages.old)
-        (written plan emit.old.has_begun before)
-        → EmitsObject (F.text feed.old) (F.faults feed.old) (F.faults feed.new)
+        (written (planned plan) emit.old.has_begun before)
+        → EmitsObject (F.text feed.old) (F.text feed.new) (F.faults feed.old) (F.faults feed.new)
         (start_at plan emit.old.has_begun before first)
         (outputs_of S.Sink T.Sink U.Sink tape.new map.new messages.new) emit.new result }
     ensures stays { is_some map.new ≡ is_some map.old }

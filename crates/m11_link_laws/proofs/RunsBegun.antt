@@ -1,21 +1,21 @@
 -- A second pass that stops with known objects has written a beginning of the writes of all of them.
-use Rattle.std.proofs.Common.{◌≡◌, ◌∙◌, ℕ, Bool, true, false, List, [], ◌∷◌, ◌++◌, append_assoc, Option, Some, None, Ok, Err, ◌⊎◌, inl, inr, refl, sym, ap, subst, arith, length-append}
+use Rattle.std.proofs.Common.{◌≡◌, ◌∙◌, ℕ, Bool, true, false, List, [], ◌∷◌, ◌++◌, append_assoc, Option, Some, None, Ok, Err, refl, sym, ap, subst, arith, length-append}
 use Rattle.m11_base.specs.Feed.{BeginsWith, HasBytes, OneFailed, Text}
 use Rattle.m11_obj_blocks.specs.Limited.{most_bytes}
 use Rattle.m11_obj_blocks.specs.Tapes.{tape_block}
 use Rattle.m11_link_modules.specs.Parts.{Part}
-use Rattle.m11_link_layout.specs.Plan.{PlanTables}
 use Rattle.m11_link_layout.specs.declared.fault.LinkFault.{LinkFault}
 use Rattle.m11_link_layout.specs.declared.fault.LinkFault.TheVariants as fault
-use Rattle.m11_link_text.specs.Findings.{Findings, planned}
+use Rattle.m11_link_text.specs.Findings.{Findings}
 use Rattle.m11_link.specs.Emit.{written}
 use Rattle.m11_base_writes.specs.Passes.{AreKnown, IsKnown, pass_of}
 use Rattle.m11_link.specs.Front.{front_writes}
-use Rattle.m11_link.specs.Objects.{AreItems, BeginningItems, FailAfter, GiveItems, Item, BlockOf, ObjectItems, taken}
+use Rattle.m11_link.specs.Objects.{AreItems, BeginningItems, FailAfter, Item, ObjectItems, taken}
 use Rattle.m11_link.specs.Objects as objects
 use Rattle.m11_link.specs.Outputs.{Gains, Stops, link}
-use Rattle.m11_base_writes.specs.Outputs.{Outputs, Write, files, flushes, to_product}
-use Rattle.m11_link.specs.SecondPass.{ReadsSecond, StopsLast, StopsWithin, begun_by}
+use Rattle.m11_base_writes.specs.Outputs.{Outputs, Write, files, to_product}
+use Rattle.m11_link.specs.SecondPass.{AreWrites, ReadsSecond, begun_by}
+use Rattle.m11_link.specs.SecondPass as passes
 use Rattle.m11_link.specs.Written.{link_writes, parts_writes}
 use Rattle.m11_link.proofs.ItemsAccepted.{PartsOrFault, accepted_after}
 use Rattle.m11_link.proofs.Sole.{objects_same}
@@ -134,12 +134,12 @@ parts_begin found these rest =
         → Begins (parts_writes found (these ++ rest)) (parts_writes found these)
     reported_from found these rest = (_, parts_more found these rest)
 
-written_begins : (plan : PlanTables) (has_begun : Bool) (parts these rest : List Part) → parts ≡ these ++ rest
-    → Begins (link_writes (planned plan) parts) (written plan has_begun these)
-written_begins plan false parts these rest split = (link_writes (planned plan) parts, refl)
-written_begins plan true parts these rest split =
-    let b = parts_begin (planned plan) these rest in
-    (b.0, ap (link_writes (planned plan)) split ∙ b.1)
+written_begins : (found : Findings) (has_begun : Bool) (parts these rest : List Part) → parts ≡ these ++ rest
+    → Begins (link_writes found parts) (written found has_begun these)
+written_begins found false parts these rest split = (link_writes found parts, refl)
+written_begins found true parts these rest split =
+    let b = parts_begin found these rest in
+    (b.0, ap (link_writes found) split ∙ b.1)
 
 -- ---- the bytes written are a beginning
 
@@ -165,46 +165,31 @@ nothing_begun old new all same =
     subst P (sym same) (λ output. ([], gained link output all, refl, keeps (old output).text))
 
 module _ {F : Type 0} (text : F → Option Text) (faults : F → ℕ) (feeds feeds' : List F) (sources : List (List ℕ))
-    (items : List Item) (are : AreItems sources items) (known : AreKnown text feeds sources) (plan : PlanTables)
+    (items : List Item) (are : AreItems sources items) (known : AreKnown text feeds sources) (found : Findings)
     (parts : List Part) (taken-is : taken [] items ≡ Ok parts) (old new : Outputs) where
   abbrev Begun : Type 0
-  Begun = LeavesBeginnings link old new (link_writes (planned plan) parts)
+  Begun = LeavesBeginnings link old new (link_writes found parts)
 
   -- if a feed fails in the second pass, each output has a beginning of the writes of all parts
-  pub read_begun : ReadsSecond (pass_of text faults feeds feeds') plan old new (Err fault.Read) → Begun
+  pub read_begun : ReadsSecond (pass_of text faults feeds feeds') found old new (Err fault.Read) → Begun
   read_begun h =
       let some : List Item = h.0 in
       let front = failed_front text faults feeds feeds' sources items some are known h.1 in
-      let split = more_parts items some front.0 parts h.3.parts front.1 taken-is h.3.taken-is in
-      let b = written_begins plan (begun_by false some) parts h.3.parts (items_parts front.0) split in
-      all_begun old new (link_writes (planned plan) parts) (written plan (begun_by false some) h.3.parts) b.0 b.1
-      h.3.gains
-
-  within_begun : (stopped : LinkFault) (Stop : List Write → Type 0)
-      → ((writes : List Write) → Stop writes → Stops old new writes stopped) → (others : List Item) → others ≡ items
-      → StopsWithin Stop plan [] others → Begun
-  within_begun stopped Stop are_stops others same h =
-      let split = more_parts items h.done h.more parts h.parts (sym same ∙ h.split) taken-is h.taken-is in
-      let b = written_begins plan true parts h.parts (items_parts h.more) split in
-      stopped_begun old new (link_writes (planned plan) parts) (written plan true h.parts) b.0 stopped b.1
-      (are_stops (written plan true h.parts) h.stops)
+      let split = more_parts items some front.0 parts h.2.parts front.1 taken-is h.2.taken-is in
+      let b = written_begins found (begun_by false some) parts h.2.parts (items_parts front.0) split in
+      all_begun old new (link_writes found parts) (written found (begun_by false some) h.2.parts) b.0 b.1 h.2.gains
 
   one_parts : (r : PartsOrFault) (xs ys : List Part) → r ≡ Ok xs → r ≡ Ok ys → xs ≡ ys
   one_parts r xs ys e f = let g : ◌≡◌ {A = PartsOrFault} (Ok xs) (Ok ys) = sym e ∙ f in cc
 
-  last_begun : (stopped : LinkFault) (Stop : List Write → Type 0)
-      → ((writes : List Write) → Stop writes → Stops old new writes stopped) → (others : List Item) → others ≡ items
-      → StopsLast Stop plan others → Begun
-  last_begun stopped Stop are_stops others same h =
-      let here : h.parts ≡ parts =
-      one_parts (taken [] items) h.parts parts (ap (taken []) (sym same) ∙ h.taken-is) taken-is in
-      let P : List Part → Type 0 = λ these. LeavesBeginnings link old new (link_writes (planned plan) these) in
-      subst P here (flushed_beginnings link old new (link_writes (planned plan) h.parts) files stopped
-      (are_stops (link_writes (planned plan) h.parts ++ flushes) h.stops))
-
   -- if an output fails or memory is refused, each output has a beginning of the writes of all parts
-  pub stop_begun : (stopped : LinkFault) (Stop : List Write → Type 0)
-      → ((writes : List Write) → Stop writes → Stops old new writes stopped) → (others : List Item) → others ≡ items
-      → StopsWithin Stop plan [] others ⊎ StopsLast Stop plan others → Begun
-  stop_begun stopped Stop are_stops others same (inl h) = within_begun stopped Stop are_stops others same h
-  stop_begun stopped Stop are_stops others same (inr h) = last_begun stopped Stop are_stops others same h
+  pub stop_begun : (stopped : LinkFault) (others : List Item) → others ≡ items → (writes : List Write)
+      → AreWrites found others writes → Stops old new writes stopped → Begun
+  stop_begun stopped others same _ (passes.AreWrites.SoFar done more these begins taken-so) stops =
+      let split = more_parts items done more parts these (sym same ∙ begins) taken-is taken-so in
+      let b = written_begins found true parts these (items_parts more) split in
+      stopped_begun old new (link_writes found parts) (written found true these) b.0 stopped b.1 stops
+  stop_begun stopped others same _ (passes.AreWrites.All these taken-so) stops =
+      let here : these ≡ parts = one_parts (taken [] items) these parts (ap (taken []) (sym same) ∙ taken-so) taken-is in
+      let P : List Part → Type 0 = λ xs. LeavesBeginnings link old new (link_writes found xs) in
+      subst P here (flushed_beginnings link old new (link_writes found these) files stopped stops)

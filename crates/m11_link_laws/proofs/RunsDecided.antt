@@ -3,21 +3,20 @@ use Rattle.std.proofs.Common.{◌≡◌, ◌∙◌, ℕ, Bool, true, false, if�
 use Rattle.std.specs.Prelude.{⊤}
 use Rattle.m11_base.specs.Feed.{GiveAll, HasBytes, Text}
 use Rattle.m11_link_modules.specs.Parts.{Part}
-use Rattle.m11_link_layout.specs.Plan.{IsPlanOf, PlanTables}
 use Rattle.m11_link_layout.specs.Sections.{is_too_large}
 use Rattle.m11_link_layout.specs.declared.fault.LinkFault.{LinkFault}
 use Rattle.m11_link_layout.specs.declared.fault.LinkFault.TheVariants as fault
-use Rattle.m11_link_text.specs.Findings.{findings_of, planned}
+use Rattle.m11_link_text.specs.Findings.{Findings, findings_of}
 use Rattle.m11_base_writes.specs.Passes.{AreKnown, IsKnown, pass_of}
 use Rattle.m11_link.specs.FirstPass.{ReadsFirst}
 use Rattle.m11_link.specs.Objects.{◌>>=◌, AreItems, GiveItems, Item, outcome, taken, unless_too_large}
-use Rattle.m11_link.specs.Outputs.{Gains, StopsBetween, StopsIn, link}
+use Rattle.m11_link.specs.Outputs.{Gains, link}
 use Rattle.m11_base_writes.specs.Outputs.{AreFlushed, Outputs, Write}
 use Rattle.m11_link.specs.SecondPass.{LinkRuns, ReadsSecond}
 use Rattle.m11_link.specs.Written.{counted, link_writes}
 use Rattle.m11_link.specs.declared.emit.LinkDone.{LinkDone}
-use Rattle.m11_link.proofs.Agreeing.{written_by_definition}
 use Rattle.m11_link.proofs.ItemsAccepted.{PartsOrFault}
+use Rattle.m11_link.proofs.SecondRead.{refused_first}
 use Rattle.m11_link.proofs.Sole.{objects_same}
 use Rattle.m11_base_writes.specs.Writes.{LeavesBeginnings}
 use Rattle.m11_link_laws.specs.Runs.{IsDecided, IsRefusal, MayStop}
@@ -82,39 +81,41 @@ module _ {F : Type 0} (text : F → Option Text) (faults : F → ℕ) (bottom : 
     first_says fault.NoMemory h = inl tt
     first_says stopped h = inr (ap (outcome bottom) (sym (same_items first known h.1 h.2)) ∙ h.3)
 
-    first_plans : (plan : PlanTables) → ReadsFirst (pass_of text faults first first') bottom (Ok plan)
-        → (parts : List Part) × (outcome bottom items ≡ Ok parts) × IsPlanOf bottom parts plan
-    first_plans plan h = (h.3, ap (outcome bottom) (sym (same_items first known h.1 h.2)) ∙ h.4, h.5)
+    first_gives : (parts : List Part) → ReadsFirst (pass_of text faults first first') bottom (Ok parts)
+        → outcome bottom items ≡ Ok parts
+    first_gives parts h = ap (outcome bottom) (sym (same_items first known h.1 h.2)) ∙ h.3
 
-  module _ (second second' : List F) (known : AreKnown text second sources) (plan : PlanTables) (old new : Outputs) where
-    second_says : (stopped : LinkFault) → ReadsSecond (pass_of text faults second second') plan old new (Err stopped)
+  module _ (second second' : List F) (known : AreKnown text second sources) (found : Findings) (old new : Outputs) where
+    second_says : (stopped : LinkFault) → ReadsSecond (pass_of text faults second second') found old new (Err stopped)
         → MayStop stopped ⊎ (taken [] items ≡ Err stopped)
     second_says fault.Read h = inl tt
     second_says (fault.Write output) h = inl tt
     second_says fault.NoMemory h = inl tt
-    second_says stopped h = inr (ap (taken []) (sym (same_items second known h.1 h.2)) ∙ h.3)
+    second_says stopped h =
+        inr (ap (taken []) (sym (same_items second known h.1 h.2)) ∙ refused_first found false [] h.1 stopped old new h.3)
 
-    second_writes : (done : LinkDone) → ReadsSecond (pass_of text faults second second') plan old new (Ok done)
-        → (parts : List Part) × (taken [] items ≡ Ok parts) × Gains old new (link_writes (planned plan) parts)
-        × (done.messages ≡ counted 0 (link_writes (planned plan) parts)) × AreFlushed new
+    second_writes : (done : LinkDone) → ReadsSecond (pass_of text faults second second') found old new (Ok done)
+        → (parts : List Part) × (taken [] items ≡ Ok parts) × Gains old new (link_writes found parts)
+        × (done.messages ≡ counted 0 (link_writes found parts)) × AreFlushed new
     second_writes done h = (h.3, ap (taken []) (sym (same_items second known h.1 h.2)) ∙ h.4, h.5, h.6, h.7)
 
     -- if the run stops, each output has a beginning of the writes of all parts
     abbrev Begun : List Part → Type 0
-    Begun parts = LeavesBeginnings link old new (link_writes (planned plan) parts)
+    Begun parts = LeavesBeginnings link old new (link_writes found parts)
 
     second_begins : (parts : List Part) → taken [] items ≡ Ok parts → (stopped : LinkFault)
-        → ReadsSecond (pass_of text faults second second') plan old new (Err stopped) → Begun parts
+        → ReadsSecond (pass_of text faults second second') found old new (Err stopped) → Begun parts
     second_begins parts e fault.Read h =
-        read_begun text faults second second' sources items are known plan parts e old new h
+        read_begun text faults second second' sources items are known found parts e old new h
     second_begins parts e (fault.Write output) h =
-        stop_begun text faults second second' sources items are known plan parts e old new (fault.Write output)
-        (StopsIn output old new) (λ writes stops. stops) h.1 (same_items second known h.1 h.2) h.4
+        stop_begun text faults second second' sources items are known found parts e old new (fault.Write output)
+        h.1 (same_items second known h.1 h.2) h.3 h.4 h.5
     second_begins parts e fault.NoMemory h =
-        stop_begun text faults second second' sources items are known plan parts e old new fault.NoMemory
-        (StopsBetween old new) (λ writes stops. stops) h.1 (same_items second known h.1 h.2) h.4
+        stop_begun text faults second second' sources items are known found parts e old new fault.NoMemory
+        h.1 (same_items second known h.1 h.2) h.3 h.4 h.5
     second_begins parts e stopped h =
-        let refused = ap (taken []) (sym (same_items second known h.1 h.2)) ∙ h.3 in
+        let refused = ap (taken []) (sym (same_items second known h.1 h.2))
+        ∙ refused_first found false [] h.1 stopped old new h.3 in
         absurd (no_both (taken [] items) parts stopped e refused)
 
   -- ---- the run
@@ -152,32 +153,27 @@ module _ {F : Type 0} (text : F → Option Text) (faults : F → ℕ) (bottom : 
 
   module _ (first first' second second' : List F) (known : AreKnown text first sources)
       (again : AreKnown text second sources) (old new : Outputs) where
-    all_written : (parts : List Part) (done : LinkDone) → outcome bottom items ≡ Ok parts → (plan : PlanTables)
-        → ReadsFirst (pass_of text faults first first') bottom (Ok plan)
-        → ReadsSecond (pass_of text faults second second') plan old new (Ok done) → IsDecided bottom (Ok parts) old new (Ok done)
-    all_written parts done e plan h k =
-        let planned-so = first_plans first first' known plan h in
-        let wrote = second_writes second second' again plan old new done k in
+    all_written : (parts : List Part) (done : LinkDone) → outcome bottom items ≡ Ok parts → (these : List Part)
+        → ReadsFirst (pass_of text faults first first') bottom (Ok these)
+        → ReadsSecond (pass_of text faults second second') (findings_of bottom these) old new (Ok done)
+        → IsDecided bottom (Ok parts) old new (Ok done)
+    all_written parts done e these h k =
+        let wrote = second_writes second second' again (findings_of bottom these) old new done k in
         let same = one_parts (taken [] items) wrote.0 parts wrote.1 (taken_of bottom (taken [] items) parts e) in
-        let here = one_parts (outcome bottom items) planned-so.0 parts planned-so.1 e in
-        let P : List Part → Type 0 = λ these. IsPlanOf bottom these plan in
-        let ws : link_writes (planned plan) wrote.0 ≡ link_writes (findings_of bottom parts) parts =
-        ap (λ these. link_writes (planned plan) these) same
-        ∙ written_by_definition bottom parts parts plan (subst P here planned-so.2) in
-        let G : List Write → Type 0 = λ these. Gains old new these in
-        (subst G ws wrote.2, wrote.3 ∙ ap (λ these. counted 0 these) ws, wrote.4)
+        let here = one_parts (outcome bottom items) these parts (first_gives first first' known these h) e in
+        let ws : link_writes (findings_of bottom these) wrote.0 ≡ link_writes (findings_of bottom parts) parts =
+        ap₂ (λ (xs ys : List Part). link_writes (findings_of bottom xs) ys) here same in
+        let G : List Write → Type 0 = λ writes. Gains old new writes in
+        (subst G ws wrote.2, wrote.3 ∙ ap (λ writes. counted 0 writes) ws, wrote.4)
 
-    begun : (parts : List Part) → outcome bottom items ≡ Ok parts → (stopped : LinkFault) → (plan : PlanTables)
-        → ReadsFirst (pass_of text faults first first') bottom (Ok plan) → taken [] items ≡ Ok parts
-        → ReadsSecond (pass_of text faults second second') plan old new (Err stopped)
+    begun : (parts : List Part) → outcome bottom items ≡ Ok parts → (stopped : LinkFault) → (these : List Part)
+        → ReadsFirst (pass_of text faults first first') bottom (Ok these) → taken [] items ≡ Ok parts
+        → ReadsSecond (pass_of text faults second second') (findings_of bottom these) old new (Err stopped)
         → LeavesBeginnings link old new (link_writes (findings_of bottom parts) parts)
-    begun parts e stopped plan h are-taken k =
-        let planned-so = first_plans first first' known plan h in
-        let here = one_parts (outcome bottom items) planned-so.0 parts planned-so.1 e in
-        let P : List Part → Type 0 = λ these. IsPlanOf bottom these plan in
-        let ws = written_by_definition bottom parts parts plan (subst P here planned-so.2) in
-        let G : List Write → Type 0 = λ these. LeavesBeginnings link old new these in
-        subst G ws (second_begins second second' again plan old new parts are-taken stopped k)
+    begun parts e stopped these h are-taken k =
+        let here = one_parts (outcome bottom items) these parts (first_gives first first' known these h) e in
+        let P : List Part → Type 0 = λ xs. LeavesBeginnings link old new (link_writes (findings_of bottom xs) parts) in
+        subst P here (second_begins second second' again (findings_of bottom these) old new parts are-taken stopped k)
 
     decided : (o : PartsOrFault) → outcome bottom items ≡ o → (result : Result LinkDone LinkFault)
         → LinkRuns (pass_of text faults first first') (pass_of text faults second second') bottom old new result → IsDecided bottom o old new result
@@ -188,17 +184,15 @@ module _ {F : Type 0} (text : F → Option Text) (faults : F → ℕ) (bottom : 
     )
     decided (Ok parts) e (Err stopped) (inr h) =
         let are-taken = taken_of bottom (taken [] items) parts e in (
-          stops_or stopped (taken [] items) parts are-taken (second_says second second' again h.0 old new stopped h.2),
+          stops_or stopped (taken [] items) parts are-taken (second_says second second' again (findings_of bottom h.0) old new stopped h.2),
           begun parts e stopped h.0 h.1 are-taken h.2,
         )
     decided (Err refused) e (Ok done) h =
-        let p = first_plans first first' known h.0 h.1 in
-        no_both (outcome bottom items) p.0 refused p.1 e
+        no_both (outcome bottom items) h.0 refused (first_gives first first' known h.0 h.1) e
     decided (Err refused) e (Err stopped) (inl h) =
         (refuses_or refused stopped e (first_says first first' known stopped h.0), h.2)
     decided (Err refused) e (Err stopped) (inr h) =
-        let p = first_plans first first' known h.0 h.1 in
-        absurd (no_both (outcome bottom items) p.0 refused p.1 e)
+        absurd (no_both (outcome bottom items) h.0 refused (first_gives first first' known h.0 h.1) e)
 
 pub run_decided : {F : Type 0} (text : F → Option Text) (faults : F → ℕ) (first first' second second' : List F)
     (bottom : ℕ) (sources : List (List ℕ)) (items : List Item) (old new : Outputs) (result : Result LinkDone LinkFault)

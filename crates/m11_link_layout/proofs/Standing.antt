@@ -1,7 +1,10 @@
 -- The state of a layout after some parts, and after further ones.
 use Rattle.std.proofs.Common.{◌≡◌, ℕ, List, [], ◌∷◌, ◌++◌, map, append-nil, inl, inr, Option, Some, None, Result, Ok, Err, IsErrAnd, refl, sym, subst, ap, ◌∙◌}
 use Rattle.std.specs.Option.{option_or}
+use Rattle.std.specs.Prelude.{is_ok}
 use Rattle.std.proofs.Math.Seq.{append_snoc}
+use Rattle.m11_obj.specs.Reading.{IsRecord, content_of}
+use Rattle.m11_obj.specs.Records.{Content}
 use Rattle.m11_obj.specs.declared.fault.RecordFault.{RecordFault}
 use Rattle.m11_obj.specs.declared.gsd.GsdEntry.{GsdEntry}
 use Rattle.m11_link_modules.specs.declared.fault.ModuleFault.{ModuleFault}
@@ -9,7 +12,7 @@ use Rattle.m11_link_modules.specs.declared.fault.ModuleFault.TheVariants as rule
 use Rattle.m11_link_modules.proofs.KnownAfter.{accepted_after}
 use Rattle.m11_link_modules.specs.Grammar.{directory_parts}
 use Rattle.m11_link_modules.specs.Laws.{AcceptsAfter}
-use Rattle.m11_link_modules.specs.Parts.{Part, Entry, EndOfDirectory, EndOfFile, EndOfModule, Text, record_parts}
+use Rattle.m11_link_modules.specs.Parts.{Part, Entry, EndOfDirectory, EndOfFile, EndOfModule, Text, parts_in, parts_of, record_parts}
 use Rattle.m11_link_modules.specs.Positions.{RulesState, known_of}
 use Rattle.m11_link_modules.specs.Rules.{fault_of, first_fault}
 use Rattle.m11_link_modules.specs.Steps.{RulesAccept}
@@ -136,18 +139,19 @@ no_record rule.TooManyModules inner e = cc
 
 -- a result of accepting the parts of a block's record is a result of accepting the block
 of_record : (bottom : ℕ) (before : List Part) (new : LayoutState) (bytes : List ℕ) (result : Result (Unit {0}) LinkFault)
-    → AcceptsParts bottom before new (record_parts bytes) result → AcceptsBlock bottom before new bytes result
-of_record bottom before new bytes (Ok done) h = h
-of_record bottom before new bytes (Err (Record inner)) h = absurd (no_record h.0 inner h.2)
-of_record bottom before new bytes (Err stopped) h = h
+    → IsRecord bytes → AcceptsParts bottom before new (record_parts bytes) result → AcceptsBlock bottom before new bytes result
+of_record bottom before new bytes (Ok done) is h = h
+of_record bottom before new bytes (Err (Record inner)) is h = absurd (no_record h.0 inner h.2)
+of_record bottom before new bytes (Err NoMemory) is h = (is, h)
+of_record bottom before new bytes (Err stopped) is h = h
 
--- a result of accepting these parts is a result of accepting a block whose record has them
-pub block_taken : (bottom : ℕ) (before parts : List Part) (new : LayoutState) (bytes : List ℕ)
-    (result : Result (Unit {0}) LinkFault) → record_parts bytes ≡ parts → AcceptsParts bottom before new parts result
+-- a result of accepting the parts of a block's content is a result of accepting the block
+pub block_taken : (bottom : ℕ) (before : List Part) (new : LayoutState) (bytes : List ℕ) (content : Content)
+    (result : Result (Unit {0}) LinkFault) → content_of bytes ≡ Ok content → AcceptsParts bottom before new (parts_of content) result
     → AcceptsBlock bottom before new bytes result
-block_taken bottom before parts new bytes result e h =
-    let P : List Part → Type 0 = λ these. AcceptsParts bottom before new these result in
-    of_record bottom before new bytes result (subst P (sym e) h)
+block_taken bottom before new bytes content result e h =
+    let P : Result Content RecordFault → Type 0 = λ r. AcceptsParts bottom before new (parts_in r) result in
+    of_record bottom before new bytes result (ap (λ (r : Result Content RecordFault). is_ok r) e) (subst P (sym e) h)
 
 -- a text changes no table
 pub text_noted : (bottom address : ℕ) (bytes : List ℕ) (g : LayoutTables)

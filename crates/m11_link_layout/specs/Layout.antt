@@ -1,7 +1,7 @@
 -- The first pass of a link, call by call: its state after the parts so far. (This project's own.)
 use Rattle.std.specs.Prelude.{◌≡◌, ◌⊎◌, ℕ, List, [], ◌++◌, Option, Some, None, Result, Ok, Err}
 use Rattle.m11_base.specs.Devices.{Bytes}
-use Rattle.m11_obj.specs.Reading.{content_of}
+use Rattle.m11_obj.specs.Reading.{IsRecord, content_of}
 use Rattle.m11_link_modules.specs.declared.fault.ModuleFault.{ModuleFault}
 use Rattle.m11_link_modules.specs.Parts.{Part}
 use Rattle.m11_link_modules.specs.Positions.{RulesState, known_of}
@@ -40,9 +40,12 @@ abbrev pub AcceptsParts : ℕ → List Part → LayoutState → List Part → Re
 AcceptsParts bottom before new parts (Ok done) = LayoutAfter bottom (before ++ parts) new
 AcceptsParts bottom before new parts (Err fault) = FirstFault before parts fault
 
--- the result for a block is the block's fault if it isn't a valid record, and otherwise the result for the record's parts
+-- the result for a block is the block's fault if it isn't a valid record, and otherwise the result for the record's parts; memory is
+-- refused only for a valid record
 abbrev pub AcceptsBlock : ℕ → List Part → LayoutState → Bytes → Result (Unit {0}) LinkFault → Type 0
 AcceptsBlock bottom before new bytes (Err (Record fault)) = content_of bytes ≡ Err fault
+AcceptsBlock bottom before new bytes (Err NoMemory) =
+    IsRecord bytes × AcceptsParts bottom before new (record_parts bytes) (Err NoMemory)
 AcceptsBlock bottom before new bytes result = AcceptsParts bottom before new (record_parts bytes) result
 
 -- after an error, the same error is returned again, and nothing changes

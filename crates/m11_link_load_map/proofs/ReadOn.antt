@@ -1,5 +1,5 @@
 -- The loops that read objects and record facts, by means of those of a link's first pass.
-use Rattle.std.proofs.Common.{◌≡◌, ◌∙◌, ℕ, ◌+◌, ◌<◌, ◌≤◌, ◌⊎◌, Bool, if◌then◌else◌, List, [], ◌∷◌, ◌++◌, length, get_or, set, Option, Some, None, Result, Ok, Err, refl, sym, ap, subst, inl, inr}
+use Rattle.std.proofs.Common.{◌≡◌, ◌∙◌, ℕ, ◌+◌, ◌<◌, ◌≤◌, ◌⊎◌, Bool, if◌then◌else◌, List, [], ◌∷◌, ◌++◌, length, get_or, set, Option, Some, None, Result, Ok, Err, IfErr, refl, sym, ap, subst, inl, inr, ◌≢◌}
 use Rattle.m11_base.specs.Feed.{Text}
 use Rattle.m11_base.proofs.FeedsRead.{all_read, begin, read_more}
 use Rattle.m11_obj_blocks.specs.Blocks.{first_block}
@@ -14,7 +14,7 @@ use Rattle.m11_link_layout.specs.declared.fault.LinkFault.{LinkFault}
 use Rattle.m11_link_layout.specs.declared.fault.LinkFault.TheVariants as fault
 use Rattle.m11_base_writes.specs.Passes.{pass_of}
 use Rattle.m11_link.specs.FirstPass.{LaysOutObject, LayoutBetween}
-use Rattle.m11_link.specs.Objects.{Item, BlockOf, ObjectEnds, taken, unless_too_large}
+use Rattle.m11_link.specs.Objects.{BlockOf, ObjectEnds, taken, unless_too_large}
 use Rattle.m11_link.specs.Objects as objects
 use Rattle.m11_link.proofs.FirstRead.{Laid, LaidAll, are_after, laid_ends, object_stops, one_object, reading_ends, reading_stops}
 use Rattle.m11_link.proofs.ItemsAccepted.{bind_on, block_taken, end_taken, ends_again, one_taken, rest_sound, accepted_after}
@@ -41,10 +41,10 @@ block_noted bottom before bytes layout layout' noted noted' s laid e = record {
 }
 
 -- if a layout accepted a block, but memory was refused for its facts, the block may be refused with `NoMemory`
-pub block_lost : (bottom : ℕ) (before : List Part) (bytes : List ℕ) (layout : LayoutState)
+pub block_lost : (bottom : ℕ) (before : List Part) (bytes : List ℕ) (layout : LayoutState) → IsRecord bytes
     → LayoutAfter bottom (before ++ record_parts bytes) layout
     → AcceptsBlock bottom before layout bytes (Err fault.NoMemory)
-block_lost bottom before bytes layout s = inr (rest_sound [] before (record_parts bytes) s.sound)
+block_lost bottom before bytes layout is s = (is, inr (rest_sound [] before (record_parts bytes) s.sound))
 
 -- ---- one object
 
@@ -96,8 +96,9 @@ module _ (text text1 : Option Text) (faults faults1 room1 bottom : ℕ) (before 
 
   pub seen_ends : Stops first_block (position text1 faults1 room1) (position text2 faults2 room2) EndsBetween
       → (result : Result (Unit {0}) LinkFault) → AcceptsParts bottom l.laid.parts layout2 (EndOfFile ∷ []) result
-      → noted2 ≡ noted1 → NotesObject text faults faults2 bottom before layout2 noted2 result
-  seen_ends s (Ok done) t e =
+      → IfErr result (λ stopped. stopped ≢ fault.NoMemory)
+      → noted2 ≡ noted1 → NotesObject text text2 faults faults2 bottom before layout2 noted2 result
+  seen_ends s (Ok done) t n e =
       let end = walk_ends text text1 faults faults1 room1 l.laid.done l.laid.walked text2 faults2 room2 s in (
         end.1,
         l.laid.done ++ ObjectEnds ∷ [],
@@ -112,8 +113,8 @@ module _ (text text1 : Option Text) (faults faults1 room1 bottom : ℕ) (before 
           noted-are = e ∙ l.noted-are ∙ sym (noted_end l.laid.parts);
         },
       )
-  seen_ends s (Err stopped) t e =
-      laid_ends text text1 faults faults1 room1 bottom before layout1 l.laid text2 faults2 room2 layout2 s (Err stopped) t
+  seen_ends s (Err stopped) t n e =
+      laid_ends text text1 faults faults1 room1 bottom before layout1 l.laid text2 faults2 room2 layout2 s (Err stopped) t n
 
 -- ---- objects one after another
 
@@ -160,7 +161,7 @@ module _ {F : Type 0} (text : F → Option Text) (faults : F → ℕ) where
   pub object_seen : (initial now : List F) (index bottom : ℕ) (before : List Part) (layout new : LayoutState) (noted noted' : List MapFact)
       (l : SeenAll text faults initial now index bottom before layout noted)
       (inside : index < length now) (d x z : F) (x-is : x ≡ get_or now index d)
-      → NotesObject (text x) (faults x) (faults z) bottom l.laid.reaches.parts new noted' (Ok tt)
+      → NotesObject (text x) (text z) (faults x) (faults z) bottom l.laid.reaches.parts new noted' (Ok tt)
       → SeenAll text faults initial (set now index z) (index + 1) bottom before new noted'
   object_seen initial now index bottom before layout new noted noted' l inside d x z x-is h = record {
     laid = record {
@@ -181,7 +182,7 @@ module _ {F : Type 0} (text : F → Option Text) (faults : F → ℕ) where
   pub object_lost : (initial now : List F) (index bottom : ℕ) (before : List Part) (layout new : LayoutState) (noted noted' : List MapFact)
       (l : SeenAll text faults initial now index bottom before layout noted)
       (inside : index < length now) (d x z : F) (x-is : x ≡ get_or now index d) (count : ℕ) (stopped : LinkFault) → count ≡ index
-      → LaysOutObject (text x) (faults x) (faults z) bottom l.laid.reaches.parts new (Err stopped)
+      → LaysOutObject (text x) (text z) (faults x) (faults z) bottom l.laid.reaches.parts new (Err stopped)
       → NotesObjects (pass_of text faults initial (set now index z)) bottom before new noted'
       (Err (record { object_index = Some count; fault = stopped }))
   object_lost initial now index bottom before layout new noted noted' l inside d x z x-is count stopped same h =

@@ -32,11 +32,11 @@ pub record ReachesNoted (bottom : ℕ) (before : List Part) (items : List Item) 
   pub noted-are : noted ≡ noted_of reaches.parts
 
 -- one object was accepted and its facts recorded; or reading it ended with a fault, as in the first pass of a link
-abbrev pub NotesObject : Option Text → ℕ → ℕ → ℕ → List Part → LayoutState → List MapFact → Result (Unit {0}) LinkFault → Type 0
-NotesObject text faults faults' bottom before layout noted (Ok done) =
+abbrev pub NotesObject : Option Text → Option Text → ℕ → ℕ → ℕ → List Part → LayoutState → List MapFact → Result (Unit {0}) LinkFault → Type 0
+NotesObject text text' faults faults' bottom before layout noted (Ok done) =
     (faults' ≡ faults) × (items : List Item) × GivesItems text items × ReachesNoted bottom before items layout noted
-NotesObject text faults faults' bottom before layout noted (Err stopped) =
-    LaysOutObject text faults faults' bottom before layout (Err stopped)
+NotesObject text text' faults faults' bottom before layout noted (Err stopped) =
+    LaysOutObject text text' faults faults' bottom before layout (Err stopped)
 
 -- the state of the layout between objects, and the facts recorded about their parts
 pub record NotedBetween (bottom : ℕ) (parts : List Part) (layout : LayoutState) (noted : List MapFact) : Type 0 where

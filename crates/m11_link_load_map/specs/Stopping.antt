@@ -26,7 +26,8 @@ pub record StopsIn {F : Type 0} (pass : Pass F) (bottom : ℕ) (before : List Pa
   pub parts : List Part
   pub taken-is : taken before items ≡ Ok parts
   pub layout : LayoutState
-  pub stops : LaysOutObject (pass.text object) (pass.faults object) (pass.faults object_now) bottom parts layout (Err stopped)
+  pub stops : LaysOutObject (pass.text object) (pass.text object_now) (pass.faults object) (pass.faults object_now) bottom parts
+      layout (Err stopped)
 
 -- the pass stops after all objects, none of which has a fault after these parts: they are too large together, or memory was refused
 abbrev pub StopsAfterAll : {F : Type 0} → Pass F → List Part → LinkFault → Type 0

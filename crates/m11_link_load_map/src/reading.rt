@@ -36,7 +36,8 @@ fn read_object<F: Feed>(
     noted: &mut Vec<MapFact>,
 ) -> Result<(), LinkFault>
     ensures { (bottom : ℕ) (before : List Part) → NotedAfter bottom before layout.old noted.old.items
-        → NotesObject (F.text feed.old) (F.faults feed.old) (F.faults feed.new) bottom before layout.new noted.new.items result }
+        → NotesObject (F.text feed.old) (F.text feed.new) (F.faults feed.old) (F.faults feed.new) bottom before
+        layout.new noted.new.items result }
 {
     let mut reader = BlockReader::new();
     let mut block = Block::new();

@@ -36,8 +36,14 @@ returns g c =
       same_output sink c.asm_run_with_seed-returned.new.listing,
     ) at c.asm_run_with_seed-returned.ensures.runs in
     let given : AsmGives (pass_of text faults first c.asm_run_with_seed-returned.new.first)
-    (pass_of text faults second c.asm_run_with_seed-returned.new.second) c.asm_run_with_seed-returned.result =
-    rw (c.as_mut_slice.ensures.value, c.as_mut_slice-2.ensures.value) at c.asm_run_with_seed-returned.ensures.gives in
+    (pass_of text faults second c.asm_run_with_seed-returned.new.second)
+    (outputs object listing reported) (outputs object' listing' reported') c.asm_run_with_seed-returned.result =
+    rw (
+      c.as_mut_slice.ensures.value,
+      c.as_mut_slice-2.ensures.value,
+      same_output sink c.args.opened.listing,
+      same_output sink c.asm_run_with_seed-returned.new.listing,
+    ) at c.asm_run_with_seed-returned.ensures.gives in
     λ before read again emptied-object emptied-listing created same. record {
       first = seen text faults first;
       first' = seen text faults c.asm_run_with_seed-returned.new.first;
@@ -52,7 +58,7 @@ returns g c =
       emptied = emptied-object;
       emptied-listing = emptied sink before.files task.listing c.args.opened.listing emptied-listing;
       runs = asm_runs text faults _ _ _ _ _ _ c.asm_run_with_seed-returned.result ran;
-      gives = asm_gives text faults _ _ _ _ c.asm_run_with_seed-returned.result given;
+      gives = asm_gives text faults _ _ _ _ _ _ c.asm_run_with_seed-returned.result given;
       kept = c.hand_back_some.ensures.keeps
           ∙ kept sink task.listing c.asm_run_with_seed-returned.new.listing _
           ∙ ap (λ files. keeping_some got task.listing listing' files)

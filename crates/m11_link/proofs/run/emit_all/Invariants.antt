@@ -3,6 +3,7 @@ use Rattle.m11_link_modules.specs.Parts.{Part, EndOfFile}
 use Rattle.m11_link_modules.specs.Rules.{fault_of}
 use Rattle.m11_link_layout.specs.Plan.{PlanTables}
 use Rattle.m11_link.specs.Emit.{EmitAfter, written}
+use Rattle.m11_link_text.specs.Findings.{planned}
 use Rattle.m11_link.specs.Outputs.{Gains}
 use Rattle.m11_base_writes.specs.Outputs.{Outputs, outputs_of}
 use Rattle.m11_link.proofs.SecondRead.{SentAll}
@@ -14,7 +15,7 @@ invariant-feeds g l = record {
       → fault_of before EndOfFile ≡ None
       → Gains first
       (outputs_of g.S.Sink g.T.Sink g.U.Sink l.initial.tape l.initial.map l.initial.messages)
-      (written plan l.initial.emit.has_begun before)
+      (written (planned plan) l.initial.emit.has_begun before)
       → SentAll g.F.Feed.text g.F.Feed.faults l.initial.feeds l.feeds l.feed-index plan l.initial.emit.has_begun before first
       (outputs_of g.S.Sink g.T.Sink g.U.Sink l.tape l.map l.messages)
       l.emit;

@@ -64,6 +64,7 @@ returns-clause-emits g c = λ plan before first s w.
     c.items.emit l (g.F.Feed.text c.next_into.new.feed) (g.F.Feed.faults c.next_into.new.feed) c.next_into.new.self.room
     (outputs_of g.S.Sink g.T.Sink g.U.Sink c.end_file.new.tape c.end_file.new.map c.end_file.new.messages)
     c.end_file.new.self reads c.end_file.result (c.end_file.ensures.takes plan l.parts l.stands)
+    (c.end_file.ensures.no_memory l.stands.fault)
 
 pub returns-in_err-next_into-clause-emits : goal.returns-in_err-next_into-clause-emits
 returns-in_err-next_into-clause-emits g c = λ plan before first s w.

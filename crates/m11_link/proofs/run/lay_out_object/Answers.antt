@@ -1,7 +1,7 @@
 use Rattle.std.proofs.Common.{rules}
 use Rattle.std.proofs.lemmas.Result.{err_from_is_err_and}
 use Rattle.m11_obj_blocks.specs.Limited.{position}
-use Rattle.m11_link.proofs.FirstRead.{laid_ends, laid_first, laid_more, laid_refused, laid_stops}
+use Rattle.m11_link.proofs.FirstRead.{laid_ends, laid_first, laid_more, laid_refused, laid_stops, no_memory_at_end}
 use Rattle.m11_link.proofs.ObjectsRead.{block_falls, reads_on}
 use Rattle.m11_link.proofs.run.lay_out_object.Goals as goal
 
@@ -54,6 +54,7 @@ returns g c = λ bottom before s.
     (g.F.Feed.text c.next_into.new.feed) (g.F.Feed.faults c.next_into.new.feed) c.next_into.new.self.room
     c.end_file.new.self
     reads c.end_file.result (c.end_file.ensures.takes bottom l.parts l.stands)
+    (no_memory_at_end c.end_file.result (c.end_file.ensures.inside l.stands.fault))
 
 pub returns-in_err-next_into : goal.returns-in_err-next_into
 returns-in_err-next_into g c = λ bottom before s.

@@ -13,7 +13,7 @@ returns-in_err-add_block-clause-notes c = λ bottom before s.
     let r = c.from_residual-in_err-add_block in
     let p = err_from_is_err_and r.result r.ensures.1 in
     rw (p.1, p.2)
-    (block_lost bottom before c.args.block.now.items c.block.new.self (c.in_ok-block.ensures.takes bottom before s.laid))
+    (block_lost bottom before c.args.block.now.items c.block.new.self c.in_ok-block.ensures.is_record (c.in_ok-block.ensures.takes bottom before s.laid))
 
 pub returns-clause-notes : goal.returns-clause-notes
 returns-clause-notes c = λ bottom before s.

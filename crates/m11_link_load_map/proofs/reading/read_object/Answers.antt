@@ -1,7 +1,7 @@
 use Rattle.std.proofs.Common.{refl, rules}
 use Rattle.std.proofs.lemmas.Result.{err_from_is_err_and}
 use Rattle.m11_obj_blocks.specs.Limited.{position}
-use Rattle.m11_link.proofs.FirstRead.{laid_refused, laid_stops}
+use Rattle.m11_link.proofs.FirstRead.{laid_refused, laid_stops, no_memory_at_end}
 use Rattle.m11_link.proofs.ObjectsRead.{block_falls, reads_on}
 use Rattle.m11_link_load_map.proofs.ReadOn.{seen_ends, seen_first, seen_more, stands_here}
 use Rattle.m11_link_load_map.proofs.reading.read_object.Goals as goal
@@ -58,7 +58,8 @@ returns g c = λ bottom before s.
     (g.F.Feed.faults c.items.feed) c.items.reader.room bottom before c.items.layout c.items.noted.items l
     (g.F.Feed.text c.next_into.new.feed) (g.F.Feed.faults c.next_into.new.feed) c.next_into.new.self.room
     c.end_file.new.self c.items.noted.items
-    reads c.end_file.result (c.end_file.ensures.takes bottom l.laid.parts l.laid.stands) refl
+    reads c.end_file.result (c.end_file.ensures.takes bottom l.laid.parts l.laid.stands)
+    (no_memory_at_end c.end_file.result (c.end_file.ensures.inside l.laid.stands.fault)) refl
 
 pub returns-in_err-next_into : goal.returns-in_err-next_into
 returns-in_err-next_into g c = λ bottom before s.

@@ -1,5 +1,7 @@
-use Rattle.std.proofs.Common.{◌∷◌, ◌++◌, List, sym, subst, refl, Ok}
-use Rattle.m11_obj.proofs.Unread.{are_where_checked}
+use Rattle.std.proofs.Common.{◌∷◌, ◌++◌, ◌∙◌, List, sym, subst, refl, Ok}
+use Rattle.m11_obj.specs.Reading.{relocations_left}
+use Rattle.m11_obj.specs.Records as records
+use Rattle.m11_obj.proofs.Unread.{are_where_checked, record_read}
 use Rattle.m11_link_modules.specs.Parts.{Part, Relocations}
 use Rattle.m11_link_modules.specs.Steps.{RulesAccept}
 use Rattle.m11_link_modules.proofs.KnownAfter.{accepted_after}
@@ -17,8 +19,8 @@ returns-in_err-branch-clause-takes c = λ bottom before bytes s e.
     let old = c.args.self.now.known in
     let new = c.add_relocations.new.self.known in
     let P : Outcome → Type 0 = λ judged. RulesAccept old new parts judged in
-    block_taken bottom before parts c.add_relocations.new.self bytes c.from_residual-in_err-branch.result
-    (record_of_parts bytes unread e are)
+    block_taken bottom before c.add_relocations.new.self bytes (records.Relocations (relocations_left unread))
+    c.from_residual-in_err-branch.result (e ∙ record_read unread are)
     (fault_reported before parts old new c.in_err-branch.field-0.0 c.add_relocations.new.self bottom
     c.from_residual-in_err-branch.result s.known (subst P c.in_err-branch.was c.in_ok-add_relocations.ensures.judged)
     c.from_residual-in_err-branch.ensures.1)

@@ -1,5 +1,4 @@
 use Rattle.std.proofs.Common.{arith}
-use Rattle.std.proofs.lemmas.Result.{err_from_is_err_and}
 use Rattle.m11_link_modules.specs.Parts.{Entry}
 use Rattle.m11_link_modules.proofs.Indexing.{found_at}
 use Rattle.m11_link_layout.proofs.Noting.{item_noted, items_noted, entry_noted}
