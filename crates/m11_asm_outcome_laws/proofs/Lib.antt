@@ -6,7 +6,7 @@ mod WholeSources
 mod FirstFaults
 mod Numbers
 mod EachPass
-mod LiveWritten
+pub mod LiveWritten
 mod MessagesCounted
 mod ObjectWritten
 mod OneOutcome
@@ -17,5 +17,6 @@ mod OutputLines
 mod OutputsAlike
 mod RunsDecided
 mod RunsRefused
+mod Shaped
 mod SourcesRead
 mod WholeOutcomes

@@ -7,5 +7,6 @@ pub mod Numbers
 pub mod OneText
 pub mod Outputs
 pub mod Runs
+pub mod Shapes
 pub mod Sources
 pub mod WholeSources

@@ -28,6 +28,11 @@ mod sources;
 
 pub use sources::outcomes_are_those_of_whole_sources;
 
+// The lines of that unfolding are those of the shape of the source.
+mod shapes;
+
+pub use shapes::sources_are_assembled_from_the_lines_of_their_shapes;
+
 // Runs over known sources, and the bytes that each output gains.
 mod beginnings;
 mod outputs;
