@@ -20,7 +20,7 @@ starts all = record { gives = λ more o. o; fails = λ stopped h. h }
 
 -- ---- one more
 
-one_more : (texts : List Bytes) (rest : List (List Bytes)) (object : Bytes) (more : List Bytes) → IsObjectOf texts object
+pub one_more : (texts : List Bytes) (rest : List (List Bytes)) (object : Bytes) (more : List Bytes) → IsObjectOf texts object
     → AreObjectsOf rest more → AreObjectsOf (texts ∷ rest) (object ∷ more)
 one_more texts rest object more one o = record {
   lines = one.lines ∷ o.lines;

@@ -13,3 +13,13 @@ mod LinesNamed
 mod LinesInside
 mod ConsistentSources
 pub mod SourcesGiven
+mod FilesWritten
+mod FilesOpened
+mod TasksPlanned
+mod CommandsObeyed
+mod ObjectsLeft
+mod TapesLeft
+mod ImagesRun
+mod CommandsChained
+mod CommandsSucceeded
+mod FilesHandedOn

@@ -10,12 +10,12 @@ use Rattle.m11_base_writes.specs.Outputs.{Outputs}
 use Rattle.m11_base.specs.Devices.{Bytes, Rises}
 use Rattle.m11_base.specs.Feed.{OneFailed, Text}
 use Rattle.m11_base_writes.specs.Passes.{pass_of}
-use Rattle.m11_link_layout.specs.Plan.{PlanTables}
 use Rattle.m11_link_layout.specs.declared.fault.LinkFault.{LinkFault}
 use Rattle.m11_link_layout.specs.declared.fault.LinkFault.TheVariants as linking
 use Rattle.m11_link.specs.FirstPass as first_pass
 use Rattle.m11_link.specs.SecondPass.{LinkRuns, ReadsSecond}
 use Rattle.m11_link.specs.declared.emit.LinkDone.{LinkDone}
+use Rattle.m11_link_text.specs.Findings.{Findings, findings_of}
 use Rattle.m11_asm_passes.specs.Lines.{givens}
 use Rattle.m11_cli_chain.specs.Steps.{NeverFail}
 
@@ -59,9 +59,9 @@ module _ {F : Type 0} (text : F → Option Text) (faults : F → ℕ) (never : N
     first_links : (bottom : ℕ) → first_pass.ReadsFirst (pass_of text faults before after) bottom (Err linking.Read) → ⊥
     first_links bottom (items, fails, taken) = none_failed before after fails.sources fails.beginning fails.failed
 
-    second_links : (plan : PlanTables) (old new : Outputs)
-        → ReadsSecond (pass_of text faults before after) plan old new (Err linking.Read) → ⊥
-    second_links plan old new (items, fails, taken, writes) = none_failed before after fails.sources fails.beginning fails.failed
+    second_links : (found : Findings) (old new : Outputs)
+        → ReadsSecond (pass_of text faults before after) found old new (Err linking.Read) → ⊥
+    second_links found old new (items, fails, writes) = none_failed before after fails.sources fails.beginning fails.failed
 
   module _ (first again second later : List F) where
     pub link_reads : (bottom : ℕ) (old new : Outputs) (returned : Result LinkDone LinkFault)
@@ -70,5 +70,6 @@ module _ {F : Type 0} (text : F → Option Text) (faults : F → ℕ) (never : N
     link_reads bottom old new (Ok done) runs = tt
     link_reads bottom old new (Err stopped) (inl (reads, unread, same)) = λ e. first_links first again bottom
         (subst (λ (f : LinkFault). first_pass.ReadsFirst (pass_of text faults first again) bottom (Err f)) e reads)
-    link_reads bottom old new (Err stopped) (inr (plan, reads, reads')) = λ e. second_links second later plan old new
-        (subst (λ (f : LinkFault). ReadsSecond (pass_of text faults second later) plan old new (Err f)) e reads')
+    link_reads bottom old new (Err stopped) (inr (parts, reads, reads')) = λ e.
+        second_links second later (findings_of bottom parts) old new
+        (subst (λ (f : LinkFault). ReadsSecond (pass_of text faults second later) (findings_of bottom parts) old new (Err f)) e reads')

@@ -1,7 +1,7 @@
 -- The result of assembling, linking and loading sources, defined by the sources alone. (MACRO-11 Language Reference Manual, "Relocation and
 -- linking": a machine holds the image of the sources. This project's own: memory is 0 before a load, and the faults that end a chain
 -- early.)
-use Rattle.std.specs.Prelude.{◌≡◌, ◌<◌, ◌*◌, ℕ, false, List, [], map, length, ⊤, None, Result, Ok, Err}
+use Rattle.std.specs.Prelude.{◌≡◌, ◌<◌, ◌*◌, ℕ, List, ⊤, Result, Ok, Err}
 use Rattle.std.specs.Option.{unwrap_or}
 use Rattle.m11_base.specs.Devices.{Bytes}
 use Rattle.m11_obj_blocks.specs.Limited.{most_bytes}
@@ -11,23 +11,14 @@ use Rattle.m11_cpu.specs.declared.fault.LoadFault.{LoadFault}
 use Rattle.m11_cpu.specs.declared.fault.LoadFault.TheVariants.{Tape, OutsideMemory}
 use Rattle.m11_cpu_machine.specs.declared.machine.Machine.{Machine}
 use Rattle.m11_cli_image.specs.Image.{image_of}
-use Rattle.m11_cli_image.specs.Objects.{link_parts, object_of}
-use Rattle.m11_cli_image.specs.Refusals.{IsOfSizes}
+use Rattle.m11_cli_image.specs.Refusals.{IsOfSizes, IsWithinSizes}
 use Rattle.m11_cli_image.specs.Sources.{Source}
-use Rattle.m11_link_layout.specs.Sections.{is_too_large}
-use Rattle.m11_link_layout.specs.declared.fault.LinkFault.{LinkFault}
-use Rattle.m11_base_writes.specs.declared.outputs.Output.TheVariants as output
-use Rattle.m11_link.specs.Objects.{AreItems, Item, outcome}
-use Rattle.m11_link.specs.Outputs.{link}
-use Rattle.m11_link.specs.Written.{link_writes}
-use Rattle.m11_link_text.specs.Findings.{findings_of}
-use Rattle.m11_link_modules.specs.Rules.{first_fault}
+use Rattle.m11_cli_image.specs.Tapes.{tape_size}
 use Rattle.m11_asm_passes.specs.Lines.{NumberedLine}
 use Rattle.m11_cpu_laws.specs.Image.{Image}
 use Rattle.m11_cpu_laws.specs.Loaded.{LiesInside, LiesPast}
 use Rattle.m11_cpu_laws.specs.Tapes.{transfer_address}
-use Rattle.m11_base_writes.specs.Writes.{gained}
-use Rattle.m11_cli_chain.specs.Refusals.{IsOfObjects, IsOfTexts}
+use Rattle.m11_cli_chain.specs.Refusals.{IsOfTexts}
 use Rattle.m11_cli_chain.specs.Sources.{AllLive, IsFirstRefused, sources_of}
 use Rattle.m11_cli_chain.specs.declared.chain.Chained.{Chained}
 use Rattle.m11_cli_chain.specs.declared.fault.ChainFault.{ChainFault}
@@ -44,50 +35,29 @@ pub record HasImage (image : Image) (words : ℕ) (machine : Machine) (start : �
   pub others : machine ≡ record (new_machine words) { memory = machine.memory }
   pub start_is : start ≡ transfer_address image
 
--- ---- the link
-
--- a link of the sources' objects refuses none of their parts, and no relocatable section ends past octal 160000
-pub record LinkAccepts (bottom : ℕ) (sources : List Source) : Type 0 where
-  pub sound : first_fault [] (link_parts sources) ≡ None
-  pub low : is_too_large bottom (link_parts sources) ≡ false
-
--- the tape that a link of these sources writes
-abbrev pub tape_of : ℕ → List Source → Bytes
-tape_of bottom sources =
-    gained link output.Product (link_writes (findings_of bottom (link_parts sources)) (link_parts sources))
-
 -- ---- the chain
 
--- no assembly of the texts and no link of their objects is refused, and the property `Holds` is true of their sources
+-- no assembly of the texts is refused, their sources exceed no limit of a link, and the property `Holds` is true of the sources
 pub record Linked (texts : List (List Bytes)) (bottom : ℕ) (Holds : List Source → Type 0) : Type 0 where
   pub lines : List (List NumberedLine)
   pub live : AllLive texts lines
-  pub links : LinkAccepts bottom (sources_of lines)
+  pub links : IsWithinSizes bottom (sources_of lines)
   pub holds : Holds (sources_of lines)
 
 -- a load stops with this fault: `OutsideMemory`, and a byte of the image is outside memory; or `TooMuch`, and the tape has more than
 -- 4,194,304 bytes; no other fault stops a load
 abbrev pub StopsLoad : ℕ → ℕ → LoadFault → List Source → Type 0
 StopsLoad bottom words OutsideMemory sources = LiesPast (2 * words) (image_of bottom sources)
-StopsLoad bottom words (Tape TooMuch) sources = most_bytes < length (tape_of bottom sources)
+StopsLoad bottom words (Tape TooMuch) sources = most_bytes < tape_size sources
 StopsLoad bottom words (Tape other) sources = ⊥
 
--- no assembly of the texts is refused, and this is the first refusal of a link of their objects: a limit that is exceeded, or a source with
--- a byte at the last location of a section
-pub record LinkRefuses (texts : List (List Bytes)) (bottom : ℕ) (stopped : LinkFault) : Type 0 where
-  pub lines : List (List NumberedLine)
-  pub live : AllLive texts lines
-  pub items : List Item
-  pub are : AreItems (map object_of (sources_of lines)) items
-  pub refused : outcome bottom items ≡ Err stopped
-  pub of_sizes : IsOfSizes bottom (sources_of lines) stopped
-
 -- A chain, in which each list of texts is one assembly, has this outcome: a machine that holds the image of the sources; a fault that stops
--- the load; the first refusal of the link; the first refusal of an assembly; or `NoMemory`. No device fails.
+-- the load; a limit of the link that the sources exceed; the first refusal of an assembly; or `NoMemory`. No device fails.
 abbrev pub Chains : List (List Bytes) → ℕ → ℕ → Result Chained ChainFault → Type 0
 Chains texts bottom words (Ok done) =
     Linked texts bottom (λ sources. HasImage (image_of bottom sources) words done.machine done.start)
 Chains texts bottom words (Err (Load stopped)) = Linked texts bottom (StopsLoad bottom words stopped)
-Chains texts bottom words (Err (Link stopped)) = IsOfObjects stopped × LinkRefuses texts bottom stopped
+Chains texts bottom words (Err (Link stopped)) =
+    (lines : List (List NumberedLine)) × AllLive texts lines × IsOfSizes bottom (sources_of lines) stopped
 Chains texts bottom words (Err (Assembly stopped)) = IsOfTexts stopped × IsFirstRefused texts stopped
 Chains texts bottom words (Err NoMemory) = ⊤

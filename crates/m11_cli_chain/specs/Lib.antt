@@ -4,3 +4,7 @@ pub mod Refusals
 pub mod Sources
 pub mod Steps
 pub mod Stating
+pub mod Exact
+pub mod Stores
+pub mod Commands
+pub mod CommandChain

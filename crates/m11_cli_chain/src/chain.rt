@@ -12,6 +12,7 @@ ghost use Rattle.m11_link_laws.specs.Runs as links;
 ghost use Rattle.m11_base_writes.specs.Passes.{AreKnown};
 ghost use Rattle.m11_cli_chain.specs.Assemblies.{AssemblyYields};
 ghost use Rattle.m11_cli_chain.specs.Chain.{Chains};
+ghost use Rattle.m11_cli_chain.specs.Exact.{ChainsExactly};
 ghost use Rattle.m11_cli_chain.specs.Steps.{AreObjectsOf, AssembliesFail, AssemblyFails, IsObjectOf, IsTapeOfObjects, LinkFails, LoadFails, LoadsNew, NeverFail, of_assembly, of_link, whole_text};
 ghost use Rattle.m11_cli_chain.specs.declared.fault.ChainFault.TheVariants.{NoMemory};
 
@@ -21,8 +22,9 @@ use m11_asm::{AsmDone, asm_run};
 use m11_asm_faults::AsmFault;
 use m11_base::{Feed, MemoryFeed, MemorySink, Sink};
 use m11_cli_image::{
-    links_are_refused_for_sizes_alone, links_write_the_texts_of_their_sources,
-    loads_of_links_yield_the_image,
+    accepted_links_are_within_the_sizes, links_are_refused_for_sizes_alone,
+    links_write_the_texts_of_their_sources, loads_of_links_yield_the_image,
+    tapes_have_the_sizes_of_their_texts,
 };
 use m11_cpu::Machine;
 use m11_link::{LinkDone, link_run, objects_yield_items};
@@ -61,12 +63,15 @@ pub fn run_chain(
 ) -> Result<Chained, ChainFault>
     requires least { least_words ≤ words }
     requires most { words ≤ most_words }
-    ensures { Chains (map (λ texts. map (λ text. text.items) texts.items) sources.now) bottom words result }
+    ensures chains { Chains (map (λ texts. map (λ text. text.items) texts.items) sources.now) bottom words result }
+    ensures exact { ChainsExactly (map (λ texts. map (λ text. text.items) texts.items) sources.now) bottom words result }
 {
     links_write_the_texts_of_their_sources();
     live_lines_give_consistent_sources();
     links_are_refused_for_sizes_alone();
     loads_of_links_yield_the_image();
+    accepted_links_are_within_the_sizes();
+    tapes_have_the_sizes_of_their_texts();
     let objects = assemble_all(alloc, sources)?;
     let tape = link_all(alloc, objects.as_slice(), bottom)?;
     load(alloc, tape.as_slice(), words)

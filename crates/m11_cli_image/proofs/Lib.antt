@@ -42,3 +42,6 @@ pub mod LimitsPassed
 pub mod ItemsTaken
 pub mod LastLocation
 pub mod GlobalsNamed
+pub mod WithinSizes
+pub mod TapeSizes
+pub mod SizesAdded

@@ -187,7 +187,7 @@ module _ (sources : List Source) where
   attributes_same name =
       ap (λ entered. unwrap_or (lookup (is_same_name name) entered) 0) (attributes_linked sources)
 
-  size_same : (name : Name) → section_size (link_parts sources) name ≡ sources_of.size_of sources name
+  pub size_same : (name : Name) → section_size (link_parts sources) name ≡ sources_of.size_of sources name
   unfolding section_size sizes_of
   size_same name =
       ap₂ total (attributes_same name) (ap (filter_map (size_under name)) (sections_linked sources))

@@ -42,7 +42,7 @@ relocates : (relocations : List Relocation) → AllByRecursion IsBody (relocatio
 relocates [] = tt
 relocates (first ∷ rest) = (tt, tt)
 
-texts_are_body : (texts : List TextParts) → AllByRecursion IsBody (flat_map records_of texts)
+pub texts_are_body : (texts : List TextParts) → AllByRecursion IsBody (flat_map records_of texts)
 texts_are_body [] = tt
 texts_are_body (text ∷ texts) =
     both (records_of text) (flat_map records_of texts)

@@ -15,3 +15,5 @@ pub mod Labels
 pub mod Worked
 pub mod Branching
 pub mod Refusals
+pub mod Tapes
+pub mod Contributions

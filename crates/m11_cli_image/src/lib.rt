@@ -21,20 +21,22 @@ mod links;
 pub use links::{
     linked_texts_end_by_the_last_address, links_have_the_texts_of_their_sources,
     links_lie_by_their_sources, links_read_their_sources, links_write_the_texts_of_their_sources,
-    the_absolute_section_lies_at_0,
+    sections_have_the_sizes_of_their_contributions, the_absolute_section_lies_at_0,
 };
 
 // The tape of a link, and a load of that tape.
 mod tapes;
 
-pub use tapes::{links_give_the_image, loads_of_links_yield_the_image};
+pub use tapes::{
+    links_give_the_image, loads_of_links_yield_the_image, tapes_have_the_sizes_of_their_texts,
+};
 
 // Links that are refused.
 mod refusals;
 
 pub use refusals::{
-    links_are_refused_for_sizes_alone, links_put_nothing_at_the_last_location,
-    links_within_the_sizes_are_accepted,
+    accepted_links_are_within_the_sizes, links_are_refused_for_sizes_alone,
+    links_put_nothing_at_the_last_location, links_within_the_sizes_are_accepted,
 };
 
 // Links without messages.

@@ -3,12 +3,14 @@
 ghost use Rattle.std.specs.Prelude.{◌≡◌, ℕ, false, List, [], map, None, Ok};
 ghost use Rattle.std.specs.List.{AllByRecursion};
 ghost use Rattle.m11_base.specs.Names.{absolute_name};
+ghost use Rattle.m11_base.specs.Rad50.{Name};
 ghost use Rattle.m11_link_layout.specs.Sections.{is_too_large};
 ghost use Rattle.m11_link.specs.Objects.{AreItems, Item, outcome};
 ghost use Rattle.m11_link_laws.specs.LinkedTexts.{linked_text, linked_texts};
 ghost use Rattle.m11_link_text.specs.Findings.{Findings};
 ghost use Rattle.m11_link_modules.specs.Parts.{Part};
 ghost use Rattle.m11_link_modules.specs.Rules.{first_fault};
+ghost use Rattle.m11_cli_image.specs.Contributions.{HasContributions};
 ghost use Rattle.m11_cli_image.specs.Links.{AreLinked, EndsInside, HasSources, LiesBySources, all_texts};
 ghost use Rattle.m11_cli_image.specs.Objects.{SourceFits, link_parts, object_of};
 ghost use Rattle.m11_cli_image.specs.Sections.{contribution};
@@ -55,4 +57,11 @@ pub fn links_write_the_texts_of_their_sources()
 pub fn the_absolute_section_lies_at_0()
     ensures { (bottom : ℕ) (sources : List Source) (index : ℕ) → AllByRecursion SourceFits sources
         → contribution bottom sources index absolute_name ≡ 0 }
+{}
+
+/// A concatenated section is as large as the contributions of all sources together, each in whole words. An overlaid section is as large as
+/// the greatest contribution, in whole words, and an absolute one as large as the greatest contribution. A link of the sources' objects gives
+/// the section this size.
+pub fn sections_have_the_sizes_of_their_contributions()
+    ensures { (sources : List Source) (name : Name) → HasContributions sources name }
 {}

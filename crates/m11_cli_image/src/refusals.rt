@@ -33,3 +33,10 @@ pub fn links_put_nothing_at_the_last_location()
     ensures { (bottom : ℕ) (sources : List Source) (items : List Item) (parts : List Part) → AllByRecursion SourceFits sources
         → AreItems (map object_of sources) items → outcome bottom items ≡ Ok parts → list_any fills_last sources ≡ false }
 {}
+
+/// If a link of the objects of sources that fit refuses nothing, the sources exceed no limit, and none has a byte at the last location of a
+/// section. So of sources that fit and are consistent, exactly those within the sizes are accepted.
+pub fn accepted_links_are_within_the_sizes()
+    ensures { (bottom : ℕ) (sources : List Source) (items : List Item) (parts : List Part) → AllByRecursion SourceFits sources
+        → AreItems (map object_of sources) items → outcome bottom items ≡ Ok parts → IsWithinSizes bottom sources }
+{}

@@ -1,6 +1,6 @@
 //! The tapes that links of the objects of sources write, and loads of them.
 
-ghost use Rattle.std.specs.Prelude.{◌≡◌, ℕ, List, map, Option, Some, Result, Ok};
+ghost use Rattle.std.specs.Prelude.{◌≡◌, ℕ, List, length, map, Option, Some, Result, Ok};
 ghost use Rattle.std.specs.List.{AllByRecursion};
 ghost use Rattle.m11_base.specs.Feed.{Text};
 ghost use Rattle.m11_cpu.specs.Loading.{LoadsInto};
@@ -18,6 +18,7 @@ ghost use Rattle.m11_base_writes.specs.Writes.{gained};
 ghost use Rattle.m11_cli_image.specs.Image.{image_of};
 ghost use Rattle.m11_cli_image.specs.Objects.{SourceFits, object_of};
 ghost use Rattle.m11_cli_image.specs.Sources.{Source};
+ghost use Rattle.m11_cli_image.specs.Tapes.{tape_size};
 
 /// If a link of the objects of sources that fit refuses nothing, the tape that the link writes is a tape of the image of the sources,
 /// whatever messages the link writes. At each address the tape has exactly the byte of the image, or none if the image has none there. The
@@ -39,4 +40,12 @@ pub fn loads_of_links_yield_the_image()
         → text.bytes ≡ gained link Product (link_writes (findings_of bottom parts) parts)
         → LoadsInto (Some text) left faults faults' before after result
         → LoadYields (image_of bottom sources) text.bytes faults faults' before after result }
+{}
+
+/// If a link of the objects of sources that fit refuses nothing, the link's tape has seven bytes for each text of the sources beside the
+/// bytes of the text, and seven for the transfer block, whatever the addresses and the values that relocations store.
+pub fn tapes_have_the_sizes_of_their_texts()
+    ensures { (bottom : ℕ) (sources : List Source) (items : List Item) (parts : List Part) → AllByRecursion SourceFits sources
+        → AreItems (map object_of sources) items → outcome bottom items ≡ Ok parts
+        → length (gained link Product (link_writes (findings_of bottom parts) parts)) ≡ tape_size sources }
 {}
