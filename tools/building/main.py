@@ -5,8 +5,8 @@ import shutil
 import signal
 import subprocess
 import sys
-import tempfile
 
+from folders import ENDING, Folder
 from images.saves import Refused as NoImage
 from images.saves import save_of
 from images.tapes import Malformed, image_of
@@ -213,11 +213,11 @@ def program(top):
 def main(argv, top):
     keep_streams()
     parser, given = words(argv)
-    for number in (signal.SIGHUP, signal.SIGINT, signal.SIGTERM):
+    for number in ENDING:
         if signal.getsignal(number) is not signal.SIG_IGN:
             signal.signal(number, end)
     try:
-        with tempfile.TemporaryDirectory(prefix="m11-build.") as room:
+        with Folder("m11-build.") as room:
             return Build(given, program(top), room).run()
     except Refused as refusal:
         if refusal.status == 2:

@@ -8,8 +8,9 @@ import os
 import re
 import socket
 import subprocess
-import tempfile
 import threading
+
+from folders import Folder
 
 NEVER = 1_000_000_000
 REGISTERS = ("R0", "R1", "R2", "R3", "R4", "R5", "SP", "PC", "PSW")
@@ -82,7 +83,7 @@ class Runs:
 
     def __init__(self, top, tape, words, limit, given, say=lambda said: None):
         self.top, self.tape, self.words, self.limit, self.input, self.say = top, tape, words, limit, given, say
-        self.room = tempfile.TemporaryDirectory(prefix="m11-debug.")
+        self.room = Folder("m11-debug.")
         self.calls = 0
 
     def begin(self, name, words, **how):
