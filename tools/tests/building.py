@@ -305,6 +305,40 @@ def check_signals(room):
         stream.close()
 
 
+# A call that gets a signal just after its temporary folder was made, or just before that is removed.
+SIGNALLED = """
+import os, shutil, signal, sys, tempfile
+sys.path.insert(0, sys.argv[1])
+from building.main import main
+makes, removes = tempfile.mkdtemp, shutil.rmtree
+
+def making(*words, **named):
+    folder = makes(*words, **named)
+    os.kill(os.getpid(), signal.SIGTERM)
+    return folder
+
+def removing(*words, **named):
+    os.kill(os.getpid(), signal.SIGTERM)
+    removes(*words, **named)
+
+if sys.argv[2] == "making":
+    tempfile.mkdtemp = making
+else:
+    shutil.rmtree = removing
+sys.exit(main(sys.argv[3:], os.path.dirname(sys.argv[1])))
+"""
+
+
+def check_signals_at_folders(room):
+    """A signal that comes while the temporary folder is made or removed leaves nothing of it either."""
+    room.put("P.MAC", b"\t.END\n")
+    for when in ("making", "removing"):
+        call = [sys.executable, "-c", SIGNALLED, os.path.join(os.path.dirname(room.script), "tools"), when, "-o", "P.TAP", "P.MAC"]
+        done = subprocess.run(call, cwd=room.folder, env={**os.environ, "TMPDIR": room.temporary}, capture_output=True, timeout=60, check=False)
+        room.expect(f"{when}: the status", done.returncode, 128 + signal.SIGTERM)
+        room.expect(f"{when}: what is left", os.listdir(room.temporary), [])
+
+
 def check_damaged(room):
     """Files with bytes that are changed, cut or put in end with a status that is stated, and with words."""
     room.put("P.MAC", b"\t.MCALL\tPUT\n\t.MACRO\tM\tA,B=5\n\tMOV\tA,#B\n\t.ENDM\nS:\tMOV\t#1000,SP\n\tM\t#1\n\tCALL\tONE\n\tHALT\n\t.END\tS\n")
@@ -357,4 +391,4 @@ def built_in_process(room, name, content):
 
 CHECKS = [(check.__name__.replace("check_", "building-").replace("_", "-"), in_a_room(check), ())
           for check in (check_outputs, check_modules, check_libraries, check_messages, check_link_messages, check_nothing_left, check_places, check_signals,
-                        check_damaged)]
+                        check_signals_at_folders, check_damaged)]

@@ -120,10 +120,10 @@ def check_mistakes(found, folder):
 
 
 def check_page(found, folder):
-    """The session in docs/COMMANDS.md."""
-    with open(os.path.join(TOP, "docs", "COMMANDS.md"), encoding="utf-8") as file:
+    """The session in examples/trace/README.md."""
+    with open(os.path.join(TOP, "examples", "trace", "README.md"), encoding="utf-8") as file:
         page = file.read()
-    part = page.split("\n### What m11-debug shows\n")[1].split("\n#")[0]
+    part = page.split("\n## Back from the stop\n")[1].split("\n#")[0]
     block = next(block for block in re.findall(r"(?:^    .*\n)+", part, re.M) if "> go\n" in block)
     wanted = re.sub(r"^    ", "", block, flags=re.M)
     with open(os.path.join(TOP, "examples", "trace", "COUNT.MAC"), encoding="ascii") as file:

@@ -2,22 +2,24 @@
 
 The commands run in a copy of the repository whose folder has a space in its name, and, if root runs this, as a user who may write to
 nothing else. `./m11` there is the other reading of the rules (bench/reading), or a copy of the program that the variable M11 names.
-Commands with `m11-dump` or `m11-trace` are run if M11_DUMP or M11_TRACE names it."""
+Commands with `m11-dump`, `m11-trace` or `m11-debug` are run if M11_DUMP and M11_TRACE name the programs that they need."""
 import glob
 import os
+import re
 import shutil
 import subprocess
 import tempfile
 
 TOP = os.path.dirname(os.path.dirname(os.path.dirname(os.path.realpath(__file__))))
-COPIED = ("README.md", ".gitignore", "m11-build", "examples", "docs", "tools", "bench/reading")
+COPIED = ("README.md", ".gitignore", "m11-build", "m11-debug", "examples", "docs", "tools", "bench/reading")
 NOBODY = 65534
 BEGINS = ("./m11", "examples/", "tools/", "cat", "echo", "printf", "awk", "make", "mkdir", "{")
 SYNOPSIS = ("...", "< MESSAGES")
-# Programs other than m11, which have no other implementation: blocks that call them are left out if their variables name none.
+# Programs other than m11, which have no other implementation: blocks that call them, or a script that does, are left out if their variables name none.
 OTHERS = {"./m11-dump": "M11_DUMP", "./m11-trace": "M11_TRACE"}
+NEEDS = {**{name: [variable] for name, variable in OTHERS.items()}, "./m11-debug": list(OTHERS.values())}
 # The pages with commands, and the heading of the part that is read; None: the whole page.
-PAGES = {"README.md": "## Half a minute with it", "docs/COMMANDS.md": "## Examples", "tools/README.md": "## How to use them"}
+PAGES = {"README.md": "## Half a minute with it", "docs/COMMANDS.md": "## What to call", "tools/README.md": "## How to use them"}
 
 M11 = r'''#!/bin/sh
 if [ -x "${0%/*}/program" ]; then exec "${0%/*}/program" "$@"; fi
@@ -59,6 +61,11 @@ def blocks_of(page, heading):
 def is_commands(block):
     """Whether a block has commands. A message may begin like one, but with a path and a colon."""
     return block[0].startswith(BEGINS) and not block[0].split()[0].endswith(":")
+
+
+def lacks_a_program(lines):
+    """Whether lines call a program that isn't given."""
+    return any(name in line and not all(os.environ.get(variable) for variable in variables) for line in lines for name, variables in NEEDS.items())
 
 
 def stands_in(block, text):
@@ -128,7 +135,7 @@ def check_page(page):
             if block[0].endswith(SYNOPSIS):
                 continue
             if is_commands(block):
-                is_left_out = any(name in line and not os.environ.get(variable) for line in block for name, variable in OTHERS.items())
+                is_left_out = lacks_a_program(block)
             if is_left_out:
                 continue
             if is_commands(block):
@@ -143,6 +150,58 @@ def check_page(page):
         if left:
             found.append("what the commands leave and .gitignore doesn't have: " + ", ".join(left))
     return found if count else ["it has no commands"]
+
+
+def rows_of(page, heading):
+    """The rows of the tables under a heading, each as the texts between backticks in its last two cells: the calls, and what they print."""
+    part = page[page.index("\n" + heading + "\n"):].split("\n## ")[1]
+    for line in part.split("\n"):
+        cells = [cell.strip().replace("\\|", "|") for cell in re.split(r"(?<!\\)\|", line)]
+        if len(cells) == 5 and cells[2].startswith("`"):
+            yield [re.findall("`([^`]+)`", cell) for cell in cells[2:4]]
+
+
+def missing_texts(calls, texts, said):
+    """What a row shows and its calls don't print, whatever the columns are."""
+    squeezed = " ".join(said.split())
+    left = [text for text in texts if " ".join(text.split()) not in squeezed]
+    return ["\n".join([*calls, "--- doesn't print", *left, "--- but", said])] if left else []
+
+
+def answers_of(said):
+    """What a session of m11-debug printed after each of its prompts."""
+    return re.split(r"^\d+> .*\n", said, flags=re.M)[1:]
+
+
+def check_calls_of_the_table():
+    """Each call in the tables of docs/COMMANDS.md prints what its row shows; the commands of m11-debug do so in one session, in their order."""
+    page, found, count, commands = get(os.path.join(TOP, "docs", "COMMANDS.md")), [], 0, []
+    session = re.search(r"^In a session of `([^`]+)`", page, re.M)[1]
+    with tempfile.TemporaryDirectory() as folder:
+        copy = Copy(folder)
+        copy.run(next(block for block in blocks_of(page, PAGES["docs/COMMANDS.md"]) if is_commands(block)), "")
+        for calls, texts in rows_of(page, PAGES["docs/COMMANDS.md"]):
+            if not calls[0].startswith((*BEGINS, "sed")):
+                commands.append((calls, texts))
+            elif not lacks_a_program(calls):
+                count += 1
+                status, said = copy.run(["set +e", *calls], "")
+                stops = any(text.startswith(("REACHED", "CHANGED")) for text in texts)
+                found += missing_texts(calls, texts, said[2])
+                if status != (1 if stops or calls[-1].startswith("diff") else 0):
+                    found.append("\n".join([*calls, f"--- leaves {status}", said[2]]))
+        if not lacks_a_program([session]):
+            lines = [line for calls, _ in commands for line in calls]
+            status, said = copy.run([f"{session} -x /dev/stdin <<'END'", *lines, "END"], "")
+            answers = iter(answers_of(said[0]))
+            for calls, texts in commands:
+                found += missing_texts(calls, texts, "".join(next(answers, "") for _ in calls))
+            if status:
+                found.append(f"{session}\n--- leaves {status}\n{said[2]}")
+        left = [line for line in copy.git("status", "--short").split("\n") if line and not line.startswith("A  ")]
+        if left:
+            found.append("what the calls leave and .gitignore doesn't have: " + ", ".join(left))
+    return found if count and commands else ["the tables have no calls"]
 
 
 def check_make():
@@ -236,4 +295,5 @@ def names():
 
 
 CHECKS = [("page-" + page.replace("/README.md", "").replace("/", "-").replace(".md", ""), check_page, (page,)) for page in names()]
-CHECKS += [("page-examples-modules-with-mistakes", check_make, ()), ("page-examples-rt11-other-forms", check_calls, ())]
+CHECKS += [("page-docs-COMMANDS-calls", check_calls_of_the_table, ()), ("page-examples-modules-with-mistakes", check_make, ()),
+           ("page-examples-rt11-other-forms", check_calls, ())]

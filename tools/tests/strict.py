@@ -1,53 +1,5 @@
-"""Checks of what m11-build --strict refuses, and of the example of a monitor, which it builds. CHECKS lists them for tools/test.py."""
-import os
-
-from tests.building import TOP, in_a_room
-
-# Each EMT of examples/monitor: a line, a call that has no character any more, memory of 5,000 words, and one that isn't served.
-EMTS = """S:\tMOV\t@#42,SP
-\tMOV\t#1,R1
-\tMOV\t#2,R2
-1$:\tSEC
-\tEMT\t340
-\tBCS\t.
-\tEMT\t341
-\tCMP\tR0,#12
-\tBNE\t1$
-\tEMT\t340
-\tMOV\tR0,R3\t; 32
-\tMOV\t#TEXT,R0
-\tEMT\t351
-\t.IRP\tX,<346,347,352,355,357>
-\tSEC
-\tEMT\tX
-\tBCS\t.
-\t.ENDR
-\tMOV\t#-1,R0
-\tEMT\t354
-\tMOV\tR0,R4\t; 157776
-\tMOV\t#2001,R0
-\tEMT\t354
-\tADD\t@#50,R2\t; 2002
-\tTST\tX
-\tBNE\t2$
-\tEMT\t350
-2$:\tEMT\t360
-TEXT:\t.ASCII\t/text/<200>
-\t.EVEN
-X:\t.WORD\t{0}
-\t.END\tS
-"""
-
-
-def check_monitor(room):
-    """The calls of the example of a monitor."""
-    monitor = os.path.join(TOP, "examples", "monitor", "MONITOR.MAC")
-    for number, printed in ((0, b"ab\r\ntext"), (1, b"ab\r\ntext?MON-F-EMT 000360 AT 001134\n")):
-        room.put("P.MAC", EMTS.format(number))
-        status, said = room.run("-r", "P.MAC", monitor, given=b"ab\n")
-        wanted = " R1 000001 R2 002002 R3 000032 R4 157776 " if number == 0 else ""
-        room.expect(f"EMTs, {number}", (status, room.out, wanted in said[-1]), (0, printed, True))
-
+"""Checks of what m11-build --strict refuses. CHECKS lists them for tools/test.py."""
+from tests.building import in_a_room
 
 # For each row that --strict sees: a source, and the message. None: it is accepted.
 STRICT = (
@@ -98,4 +50,4 @@ def check_strict(room):
         room.expect(f"strict with {source!r}", "right" if is_right else f"{status}: " + "\n".join(said), "right")
 
 
-CHECKS = [(check.__name__.replace("check_", "building-"), in_a_room(check), ()) for check in (check_strict, check_monitor)]
+CHECKS = [("building-strict", in_a_room(check_strict), ())]
