@@ -1,0 +1,1 @@
+"""Calls of the programs and the scripts with damaged files."""
