@@ -64,6 +64,20 @@ def local_labels(texts):
     return None if any("'" in name for name in found) else {six(name) for name in found if name[0].isdigit()}
 
 
+def as_looked_for(name, block):
+    """A label as it is found: a local symbol by its block as well."""
+    return six(name), block if name[:1].isdigit() else None
+
+
+def first_by_label(lines):
+    """The first line of a listing that has each label, so that a message needn't look through all lines."""
+    found = {}
+    for line in lines:
+        for name, _, _ in line.statement.labels:
+            found.setdefault(as_looked_for(name, line.block), line)
+    return found
+
+
 class Flags:
     """Words for the flags of messages, which come in the order of the flagged lines of a listing."""
 
@@ -71,7 +85,7 @@ class Flags:
         """Of sources with these local labels, or None if those aren't known; and with a listing."""
         self.labels = labels
         self.lines, flagged = read_listing(listing) if listing is not None else ([], [])
-        self.flagged = iter(flagged)
+        self.flagged, self.by_label = iter(flagged), first_by_label(self.lines)
 
     def words(self, flags, number, text):
         """The meaning of a line's flags."""
@@ -102,17 +116,12 @@ class Flags:
     def branch(self, statement, place):
         """Why a branch has an A."""
         target = statement.text[statement.b:tokens(statement.text, statement.b)[-1][1]].split(",")[-1].strip()
-        labels = [line for line in self.lines if place and self.has_label(line, target, place)]
-        if not labels:
+        found = self.by_label.get(as_looked_for(target, place.block)) if place else None
+        if found is None:
             return BRANCH
-        if labels[0].section != place.section:
+        if found.section != place.section:
             return OTHER_SECTION
-        words = (labels[0].location - place.location - 2) // 2
+        words = (found.location - place.location - 2) // 2
         back, on = REACH_OF_SOB if statement.op == "SOB" else REACH
         far = max(-back - words, words - on)
         return TOO_FAR.format(far, "" if far == 1 else "s") if far > 0 else BRANCH
-
-    def has_label(self, line, target, place):
-        """Whether a line has the label that a branch names: of a local one, in the same block."""
-        names = [six(name) for name, _, _ in line.statement.labels]
-        return six(target) in names and (not target[:1].isdigit() or line.block == place.block)

@@ -97,4 +97,22 @@ def check_flags():
     return wrong
 
 
-CHECKS = [("flags-in-words", check_flags, ())]
+def check_many():
+    """Branches that are out of reach take no longer if a listing has more lines: no message looks through all of them."""
+    wrong, count = [], 12_000
+    with tempfile.TemporaryDirectory() as folder:
+        row = "A   {0:6} {1:06o} 000777" + " " * 18 + "L{0}:\tBR\tL{2}\n"
+        put(folder, "L", "".join(row.format(number, 2 * number, count - number) for number in range(1, count)) + "\nSYMBOL TABLE\n")
+        put(folder, "S.MAC", "".join(f"L{number}:\tBR\tL{count - number}\n" for number in range(1, count)))
+        messages = "".join(f"A {number}: L{number}:\tBR\tL{count - number}\n" for number in range(1, count)).encode()
+        try:
+            status, told = lines(folder, messages, "-w", "-l", "L")
+        except subprocess.TimeoutExpired:
+            return ["many branches take more than a minute"]
+        first = f"S.MAC:1: A: branch out of reach by {count - 3 - 127} words: L1:\tBR\tL{count - 1}"
+        if (status, told.split("\n")[0], told.count("\n")) != (0, first, count - 1):
+            wrong.append(f"many branches leave {status} and {told[:200]}")
+    return wrong
+
+
+CHECKS = [("flags-in-words", check_flags, ()), ("flags-of-many-lines", check_many, ())]
