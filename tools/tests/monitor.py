@@ -163,6 +163,37 @@ def check_monitor_files(room):
         room.expect(f"unpack of {printed}", (done.returncode, done.stdout, done.stderr.endswith(b" isn't whole\n")), (1, b"a", True))
 
 
+# What unpack is given, its words, and its sentence; what precedes the fault is printed.
+NOT_UNPACKED = (
+    (b"\x1cOUT.DAT", (), "OUT.DAT isn't whole"), (b"\x1c" + b"1" * 5000 + b" " + b"1" * 5000 + b"\n", (), f"{'1' * 40} isn't whole"),
+    (b"\x1cA \xb2\nbb", (), "A isn't whole"), (b"\x1c/ 1\nb", (), " can't be the name of a file"), (b"\x1c.. 1\nb", (), ".. can't be the name of a file"),
+    (b"\x1cA\0B 1\nb", (), "A\\x00B can't be the name of a file"), (b"\x1cfolder 1\nb", (), "./folder: Is a directory"), (b"b", ("IN.DAT",), "IN.DAT: File exists"),
+    (b"b", ("",), "standard output: No such file or directory"))
+NOT_PACKED = (("a b", "no program can read the name of 'a b', which is empty or has a blank in it"), ("x\ny", "no program can read the name of 'x\ny', which is"),
+              ("folder", "folder is no file, or can't be read"), ("folder/", "no program can read the name of 'folder/'"), ("NONE", "NONE is no file, or can't be read"))
+
+
+def check_monitor_scripts(room):
+    """What pack and unpack refuse, by a sentence, and with nothing written; and names that are taken for nothing else."""
+    def called(script, *words, given=b"", out=subprocess.PIPE):
+        done = subprocess.run([os.path.join(FOLDER, script), *words], cwd=room.folder, input=given, stdout=out, stderr=subprocess.PIPE, timeout=120)
+        return done.returncode, done.stdout, done.stderr.decode()
+
+    for name in ("IN.DAT", "a b", "x\ny", "-", "--help", "folder/B"):
+        room.put(name, name)
+    for printed, words, sentence in NOT_UNPACKED:
+        status, out, said = called("unpack", *words, given=b"a" + printed)
+        room.expect(f"unpack {words} of {printed[:20]}", (status, out, said), (1, b"" if words else b"a", f"unpack: {sentence}\n"))
+    for name, sentence in NOT_PACKED:
+        status, out, said = called("pack", "IN.DAT", name)
+        room.expect(f"pack of {name}", (status, out, said.startswith(f"pack: {sentence}")), (1, b"", True))
+    wanted = b"".join(packed(name.split("/")[-1], name.encode()) for name in ("IN.DAT", "-", "--help", "folder/B"))
+    room.expect("names", called("pack", "IN.DAT", "-", "--help", "folder/B"), (0, wanted, ""))
+    with open("/dev/full", "wb") as full:
+        room.expect("a full device", called("unpack", given=b"b", out=full), (1, None, "unpack: standard output: No space left on device\n"))
+        room.expect("a full device, and pack", called("pack", "IN.DAT", out=full)[0] != 0, True)
+
+
 # Calls that fail: lines, and the byte at 52 as a digit, or what is printed.
 FAILURES = (
     (".LOOKUP #AREA,#1,#NONE", "1"),
@@ -513,4 +544,4 @@ def check_monitor_begin(room):
 
 CHECKS = [(check.__name__.replace("check_", "").replace("_", "-"), in_a_room(check), ())
           for check in (check_monitor_console, check_monitor_files, check_monitor_failures, check_monitor_heads, check_monitor_ends, check_monitor_answers,
-                        check_monitor_lines, check_monitor_programs, check_monitor_damaged, check_monitor_life, check_monitor_begin)]
+                        check_monitor_lines, check_monitor_scripts, check_monitor_programs, check_monitor_damaged, check_monitor_life, check_monitor_begin)]
