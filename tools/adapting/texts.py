@@ -5,6 +5,8 @@ quotes, dashes and spaces."""
 import errno
 import re
 
+from contents import content_of
+
 from .scan import Line, comment_place
 
 # Typographic quotes, minus signs and spaces, as the bytes of UTF-8.
@@ -27,8 +29,7 @@ class Texts:
 
     def content(self, path):
         """The bytes of a file."""
-        with open(path, "rb") as file:
-            return file.read()
+        return content_of(path)
 
     def say(self, path, number, sentence):
         self.reports.note(Line("", "", path, number), sentence)

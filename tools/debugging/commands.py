@@ -1,6 +1,8 @@
 """The commands: their words, abbreviations and arguments."""
 import re
 
+from contents import content_of
+
 from . import calls, showing
 from .runs import NEVER, Refused
 from .session import MANY
@@ -271,8 +273,7 @@ class Commands:
         if self.depth >= 8:
             raise Refused(f"{rest}: files of commands are nested too deep")
         try:
-            with open(rest, encoding="utf-8", errors="surrogateescape") as file:
-                lines = file.read().splitlines()
+            lines = content_of(rest).decode("utf-8", "surrogateescape").splitlines()
         except (OSError, ValueError) as error:
             raise Refused(f"{rest}: {getattr(error, 'strerror', None) or error}", 3) from error
         self.depth += 1

@@ -1,6 +1,9 @@
 """Names of addresses, from objects, load maps, maps of links and listings, each in its own section."""
 import bisect
+import errno
 import re
+
+from contents import content_of
 
 from .listings import Listing
 from .runs import Refused
@@ -96,10 +99,9 @@ class Names:
 
 def read(path):
     try:
-        with open(path, "rb") as file:
-            return file.read()
+        return content_of(path)
     except OSError as error:
-        raise Refused(f"{path}: {error.strerror}", 3) from error
+        raise Refused(f"{path}: {error.strerror}", 6 if error.errno == errno.EFBIG else 3) from error
 
 
 def kind_of(content):

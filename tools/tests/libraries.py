@@ -2,6 +2,7 @@
 
 The other reading of the rules (bench/reading) writes the objects, and links the extracted ones."""
 import os
+import resource
 import subprocess
 import sys
 import tempfile
@@ -170,8 +171,33 @@ def check_full_devices():
                                       stderr=subprocess.PIPE, timeout=60, check=False, env=variables)
             said = f"{words[0]}: an output: No space left on device\n".encode()
             wrong += differ(f"{words} on a full device", (done.returncode, done.stderr), (3, said))
+        with open("/dev/full", "wb") as full:
+            done = subprocess.run([sys.executable, os.path.join(TOOLS, "lines"), "NONE.MAC"], cwd=folder, input=b"Q 1: X\n", stdout=full,
+                                  stderr=subprocess.PIPE, timeout=60, check=False, env=variables)
+        said = b"lines: [Errno 2] No such file or directory: 'NONE.MAC'\nlines: an output: No space left on device\n"
+        wrong += differ("lines without its source on a full device", (done.returncode, done.stderr), (3, said))
+    return wrong
+
+
+def limited():
+    """A process without room for a file that has no end."""
+    resource.setrlimit(resource.RLIMIT_AS, (1 << 30, 1 << 30))
+
+
+def check_endless_files():
+    """A device without end is refused as a file that is too long."""
+    wrong, said = [], "the file has more than 16777216 bytes"
+    with tempfile.TemporaryDirectory() as folder:
+        put(folder, "S.MAC", b"\t.END\n")
+        for words, line in ((("adapt", "/dev/zero"), f"adapt: /dev/zero: {said}"), (("adapt", "-l", "/dev/zero", "S.MAC"), f"adapt: /dev/zero: {said}"),
+                            (("unlib", "/dev/zero"), f"unlib: /dev/zero: {said}"), (("unmac", "/dev/zero"), f"unmac: /dev/zero: {said}"),
+                            (("lines", "/dev/zero"), f"lines: [Errno 27] {said}: '/dev/zero'"),
+                            (("lines", "-w", "-l", "/dev/zero", "S.MAC"), f"lines: [Errno 27] {said}: '/dev/zero'")):
+            done = subprocess.run([sys.executable, os.path.join(TOOLS, words[0]), *words[1:]], cwd=folder, input=b"", capture_output=True, timeout=60,
+                                  check=False, preexec_fn=limited)
+            wrong += differ(f"{words}", (done.returncode, done.stderr.decode()), (3, line + "\n"))
     return wrong
 
 
 CHECKS = [("libraries-" + check.__name__[6:].replace("_", "-"), check, ())
-          for check in (check_macros, check_damaged_macros, check_objects, check_damaged_objects, check_full_devices)]
+          for check in (check_macros, check_damaged_macros, check_objects, check_damaged_objects, check_full_devices, check_endless_files)]

@@ -5,6 +5,7 @@ import os
 import pty
 import random
 import re
+import resource
 import select
 import signal
 import subprocess
@@ -105,6 +106,11 @@ def check_commands(found, folder):
     expect(found, "help fits a screen", (len(said) <= 23, max(map(len, said)) <= 80), (True, True))
 
 
+def limited():
+    """A process without room for a file that has no end."""
+    resource.setrlimit(resource.RLIMIT_AS, (1 << 30, 1 << 30))
+
+
 def check_files(found, folder):
     """Statuses and sentences for tapes, names and files that can't be read, and for words that are refused."""
     build(folder, "LONG", LONG)
@@ -135,6 +141,11 @@ def check_files(found, folder):
             done = subprocess.run([os.path.join(TOP, "m11-debug"), "-y", "BAD", "LONG.TAP"], cwd=folder, input=b"step\nexamine -l PC\n", capture_output=True,
                                   timeout=PATIENCE, check=False)
             expect(found, f"a damaged {name}", (done.returncode in (0, 2, 3, 4, 6), b"Traceback" in done.stderr), (True, False))
+    for words, status in ((["-y", "/dev/zero"], 6), (["-i", "/dev/zero"], 6), (["-x", "/dev/zero"], 0)):
+        done = subprocess.run([os.path.join(TOP, "m11-debug"), *words, "LONG.TAP"], cwd=folder, input=b"", capture_output=True, timeout=PATIENCE, check=False,
+                              preexec_fn=limited)
+        said = b"/dev/zero: the file has more than 16777216 bytes"
+        expect(found, f"{words}, which have no end", (done.returncode, said in done.stdout + done.stderr), (status, True))
     no_start = call("m11-debug", "-s", "160000", "LONG.TAP", folder=folder, status=2)
     expect_in(found, "a start past the memory", no_start, "?M11 USAGE 5 BadAddress")
 
