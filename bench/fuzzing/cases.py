@@ -8,12 +8,12 @@ from .good import ROLES
 from .places import TOP
 
 # Names of files that a shell or a parser of words could take for something else.
-ODD = ("-", "--", "-o", "-x.MAC", "a b", " ", "é.MAC", "x\ny", "\udcff\udcfe", "A+B", "+", "=", "*", "$(x)", "'", '"', "\\", "a\tb", "A" * 200, ".OBJ", "..x", "%s",
-       "a;b", "#", "~", "-n5", "--help", "\x1b[1m", "x ", "x.map", "\u202e")
+ODD = ("-", "--", "-o", "-x.MAC", "a b", " ", "é.MAC", "x\ny", "\udcff\udcfe", "A+B", "+", "=", "*", "$(x)", "'", '"', "\\", "a\tb", "A" * 200, ".OBJ", "..x",
+       "%s", "a;b", "#", "~", "-n5", "--help", "\x1b[1m", "x ", "x.map", "\u202e")
 # Words that a damaged command line gets.
-WORDS = ("", "-h", "--help", "--version", "-o", "-l", "-m", "-b", "-n", "-s", "-k", "-f", "-p", "-w", "-r", "-y", "-i", "-x", "-L", "-d", "-t", "-v", "--strict", "--",
-         "-n10", "-n=10", "--steps=+10", "-n-0", "-n", "99999999999999999999", "-b1001", "-b0", "--bottom=777777", "-k4095", "-p1000:0", "-r1000:10", "-ddd", "--out",
-         "\udcff", "\u65e5\u672c", "x\ny", "-\udcff", "--=", "--=x", "-o=", "/dev/null", "/dev/full", ".", "/", "//", "none/x")
+WORDS = ("", "-h", "--help", "--version", "-o", "-l", "-m", "-b", "-n", "-s", "-k", "-f", "-p", "-w", "-r", "-y", "-i", "-x", "-L", "-d", "-t", "-v",
+         "--strict", "--", "-n10", "-n=10", "--steps=+10", "-n-0", "-n", "99999999999999999999", "-b1001", "-b0", "--bottom=777777", "-k4095", "-p1000:0",
+         "-r1000:10", "-ddd", "--out", "\udcff", "\u65e5\u672c", "x\ny", "-\udcff", "--=", "--=x", "-o=", "/dev/null", "/dev/full", ".", "/", "//", "none/x")
 OLD = b"an older file\n"
 
 
@@ -102,9 +102,14 @@ class Case:
         return list(words) if self.one_in(count) else []
 
     def octal(self):
+        """An address: mostly one that may be given."""
+        if not self.one_in(5):
+            return self.chance.choice(("1000", "0", "2000", "1010", "157776", "001000", "400", "20000"))
         return self.chance.choice(("1000", "0", "2000", "157776", "160000", "1001", "8", "", "177777", "200000", "001000", "-2", "1000.", "20000"))
 
     def count(self):
+        if not self.one_in(5):
+            return self.chance.choice(("0", "1", "16", "17", "100", "2000"))
         return self.chance.choice(("0", "1", "16", "17", "100", "1000", "2000", "+5", "-0", "1000000001", "x", ""))
 
     def shuffled(self, inputs, options):

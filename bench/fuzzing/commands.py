@@ -38,7 +38,8 @@ def link(case):
 
 
 def run_options(case):
-    return [["-n", case.chance.choice(("0", "1", "17", "500", "2000"))], case.maybe(5, "-s", case.octal()), case.maybe(6, "-k", case.chance.choice(("4096", "28672", "4095", "x")))]
+    return [["-n", case.chance.choice(("0", "1", "17", "500", "2000"))], case.maybe(5, "-s", case.octal()),
+            case.maybe(6, "-k", case.chance.choice(("4096", "4096", "28672", "28672", "4095", "x")))]
 
 
 @kind
@@ -67,8 +68,8 @@ def trace(case):
     case.given = case.chance.choice((b"", b"HELLO\n", case.odd_text()))
     case.is_full = case.one_in(30)
     options = run_options(case) + [case.maybe(4, "-f", case.count()), case.maybe(6, "-w", case.octal()), case.maybe(8, "-b", case.octal())]
-    options += [["-p", case.octal() + case.chance.choice(("", ":1", ":3", ":0", ":x"))] for _ in range(case.chance.choice((0, 0, 1, 2)))]
-    options += [["-r", case.octal() + case.chance.choice(("", ":1010", ":157776", ":"))] for _ in range(case.chance.choice((0, 0, 1, 2)))]
+    options += [["-p", case.octal() + case.chance.choice(("", ":1", ":3", ":3", "", ":1", ":2", ":0", ":x"))] for _ in range(case.chance.choice((0, 0, 1, 2)))]
+    options += [["-r", case.octal() + case.chance.choice(("", ":1010", ":157776", ":1020", "", ":0", ":"))] for _ in range(case.chance.choice((0, 0, 1, 2)))]
     case.words = case.shuffled([case.file("tape")], options + [names(case) for _ in range(case.chance.choice((0, 1, 1, 2)))])
 
 
@@ -88,8 +89,8 @@ def build(case):
 @kind
 def debug(case):
     tape = case.put(case.good_of("tape"), ".TAP") if not case.one_in(4) else case.file("tape")
-    options = [["-n", case.chance.choice(("0", "17", "500", "20000"))], case.maybe(8, "-s", case.octal()), case.maybe(8, "-k", "4096"), case.maybe(8, "-b", case.octal()),
-               case.maybe(4, "-i", case.file("source"))]
+    options = [["-n", case.chance.choice(("0", "17", "500", "20000"))], case.maybe(8, "-s", case.octal()), case.maybe(8, "-k", "4096"),
+               case.maybe(8, "-b", case.octal()), case.maybe(4, "-i", case.file("source"))]
     options += [names(case) for _ in range(case.chance.choice((0, 1, 1, 2)))]
     commands = session(case)
     if case.one_in(3):
@@ -104,7 +105,8 @@ def debug(case):
 def adapt(case):
     inputs = some(case, 2, source, case)
     has_folder = len(inputs) > 1 or case.one_in(3)
-    options = [["-o", case.chance.choice(("NEW", "NEW", "NEW", ".", "F0.MAC", "/dev/full"))] if has_folder else [], case.maybe(2, "-l", source(case)), case.maybe(5, "-i", ".")]
+    options = [["-o", case.chance.choice(("NEW", "NEW", "NEW", ".", "F0.MAC", "/dev/full"))] if has_folder else [],
+               case.maybe(2, "-l", source(case)), case.maybe(5, "-i", ".")]
     case.is_full = case.one_in(30)
     case.words = case.shuffled(inputs, options)
 
@@ -116,7 +118,8 @@ def lines(case):
     if case.one_in(3):
         case.files[inputs[0] + ".map"] = case.text("messages") if case.one_in(2) else b"".join(b"%d A.MAC %d\n" % (n, n) for n in range(1, 30))
     words = case.maybe(2, "-w")
-    options = [["-m", f"{case.room}/m11", "-d", f"{case.room}/m11-dump"] if not case.one_in(8) else ["-m", case.chance.choice(("none", ".", "/dev/null"))], words]
+    programs = ["-m", f"{case.room}/m11", "-d", f"{case.room}/m11-dump"]
+    options = [programs if not case.one_in(15) else ["-m", case.chance.choice(("none", ".", "/dev/null"))], words]
     options.append(["-l", case.file("listing")] if words and case.one_in(2) else [])
     case.given, case.is_full = case.text("messages"), case.one_in(30)
     case.words = case.shuffled(inputs, options)
@@ -141,7 +144,7 @@ def unmac(case):
 def sav(case):
     is_tape = case.one_in(2)
     image = case.file("save" if is_tape else "tape")
-    case.words = case.shuffled([image], [["-o", case.output(".OUT")], ["-t"] if is_tape else [], case.maybe(3, "-w")])
+    case.words = case.shuffled([image], [["-o", case.output(".OUT")], ["-t"] if is_tape else [], case.maybe(3 if is_tape else 20, "-w")])
 
 
 @kind

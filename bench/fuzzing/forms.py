@@ -25,15 +25,19 @@ def stop(words):
 ASM = {0: r"ERRORS DETECTED: 0\n", 1: MESSAGES + r"ERRORS DETECTED: [1-9]\d*\n", 2: f"{PARSER}|{USAGE}|{SCRIPT}",
        3: rf"{MESSAGES}\?M11 ASM (1 Read|2 Write (OBJECT|LISTING|MESSAGES))\n|{OPEN}",
        6: r"\?M11 ASM (6 TooMuchSource|3 TooManySymbols|4 TooManySections|5 Unfold (1 TooDeep|2 TooManyLines|3 TooMuchText|4 TooManyMacros))\n"}
-LINK = {0: "", 1: LINK_MESSAGES, 2: f"{PARSER}|{USAGE}|{SCRIPT}", 3: rf"{LINK_MESSAGES}\?M11 LINK (1 Read|2 Write (TAPE|MAP|MESSAGES))\n|{OPEN}",
+LINK = {0: "", 1: LINK_MESSAGES, 2: f"{PARSER}|{USAGE}|{SCRIPT}",
+        3: rf"{LINK_MESSAGES}\?M11 LINK (1 Read|2 Write (TAPE|MAP|MESSAGES))\n|{OPEN}",
         4: rf"\?M11 LINK {BAD_OBJECT}\n", 6: r"\?M11 LINK (9 TooLarge|10 TooManyGlobals|11 TooManySections|12 TooManyModules|13 TooMuch)\n"}
-SIM = {0: stop("HALT"), 1: stop("LIMIT|WAIT|STACK FAULT|NO START"), 2: f"{PARSER}|{USAGE}", 3: stop("INPUT FAULT|OUTPUT FAULT") + rf"|\?M11 SIM 1 Device\n|{OPEN}",
+SIM = {0: stop("HALT"), 1: stop("LIMIT|WAIT|STACK FAULT|NO START"), 2: f"{PARSER}|{USAGE}",
+       3: stop("INPUT FAULT|OUTPUT FAULT") + rf"|\?M11 SIM 1 Device\n|{OPEN}",
        4: rf"\?M11 SIM {BAD_TAPE}\n", 6: r"\?M11 SIM 9 TooMuch\n"}
-DUMP = {0: "", 2: f"{PARSER}|{OF_OPTIONS}", 3: rf"\?M11 DUMP 1 Read{AT}\n|\?M11 DUMP 1 Read OF {PATH}\n|\?M11 DUMP 2 Write({AT})?\n|{OPEN}|{MAP_FAULT[3]}",
+DUMP = {0: "", 2: f"{PARSER}|{OF_OPTIONS}",
+        3: rf"\?M11 DUMP 1 Read{AT}\n|\?M11 DUMP 1 Read OF {PATH}\n|\?M11 DUMP 2 Write({AT})?\n|{OPEN}|{MAP_FAULT[3]}",
         4: rf"\?M11 DUMP ({BAD_OBJECT}|20 Tape [2-8] \w+){AT}\n|\?M11 DUMP {BAD_OBJECT} OF {PATH}\n|{MAP_FAULT[4]}",
         6: rf"\?M11 DUMP (10 TooManyGlobals|11 TooManySections|13 TooMuch){AT}\n|\?M11 DUMP 9 TooLarge\n|\?M11 DUMP 1[0-3] \w+ OF {PATH}\n|{MAP_FAULT[6]}"}
 TRACE = {0: f"({STEP})*{stop('HALT')}{MEMORY}", 1: f"({STEP})*{stop('LIMIT|WAIT|STACK FAULT|NO START|REACHED|CHANGED')}{MEMORY}", 2: f"{PARSER}|{OF_OPTIONS}",
-         3: f"({STEP})*{stop('INPUT FAULT|OUTPUT FAULT')}{MEMORY}|\\?M11 SIM 1 Device\\n|{OPEN}|{MAP_FAULT[3]}", 4: f"{SIM[4]}|{MAP_FAULT[4]}", 6: f"{SIM[6]}|{MAP_FAULT[6]}"}
+         3: f"({STEP})*{stop('INPUT FAULT|OUTPUT FAULT')}{MEMORY}|\\?M11 SIM 1 Device\\n|{OPEN}|{MAP_FAULT[3]}",
+         4: f"{SIM[4]}|{MAP_FAULT[4]}", 6: f"{SIM[6]}|{MAP_FAULT[6]}"}
 
 
 def of_script(name, statuses, lines="", words="usage: [\\s\\S]+"):
@@ -42,15 +46,14 @@ def of_script(name, statuses, lines="", words="usage: [\\s\\S]+"):
     return {status: form if form is not None else words if status == 2 else sentence for status, form in statuses.items()}
 
 
-LINES = r"([^\n]*: [^\n]*\n|R0 [^\n]*\n|[A-Z ]+ AFTER \d+ STEPS\n)*"
 ANY = r"[\s\S]*"
 SOME = r"[\s\S]+\n"
+DEBUG = r"(m11-debug: |\?M11 )[\s\S]+\n"
 FORMS = {
     "asm": ASM, "link": LINK, "sim": SIM, "dump": DUMP, "trace": TRACE,
     # Lines name files, and a name may have a line feed in it.
     "build": of_script("m11-build", {0: ANY, 1: SOME, 2: None, 3: SOME, 4: SOME, 6: SOME}),
-    "debug": of_script("m11-debug", {0: "", 2: r"usage: [\s\S]+|m11-debug: [\s\S]+\n|\?M11 USAGE [\s\S]+|error: [\s\S]+",
-                                     3: rf"m11-debug: [\s\S]+\n|{OPEN}|\?M11 [\s\S]+\n", 4: r"m11-debug: [\s\S]+\n|\?M11 [\s\S]+\n", 6: r"m11-debug: [\s\S]+\n|\?M11 [\s\S]+\n"}),
+    "debug": of_script("m11-debug", {0: "", 2: rf"usage: [\s\S]+|{DEBUG}|error: [\s\S]+", 3: DEBUG, 4: DEBUG, 6: DEBUG}),
     "adapt": of_script("adapt", {0: ANY, 1: SOME, 2: None, 3: None}),
     "lines": of_script("lines", {0: "", 2: None, 3: None}),
     "unlib": of_script("unlib", {0: "", 1: None, 2: r"usage: [\s\S]+|unlib: [\s\S]+\n", 3: None, 4: None}),
@@ -59,4 +62,4 @@ FORMS = {
     "pack": {0: "", 1: SOME, 2: SOME},
     "unpack": of_script("unpack", {0: "", 1: None, 2: None, 3: None}),
 }
-COMPILED = {kind: {status: re.compile(form.encode(), re.S if "[^" in form else 0) for status, form in forms.items()} for kind, forms in FORMS.items()}
+COMPILED = {kind: {status: re.compile(form.encode()) for status, form in forms.items()} for kind, forms in FORMS.items()}

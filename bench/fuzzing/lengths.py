@@ -14,19 +14,21 @@ FACTOR, LEAST = 3, 1.5
 # Seconds below which times aren't told apart.
 NOISE = .06
 HERE = "LONG"
+NAMES = ("map", "load map", "listing", "object")
 # What has a long file in each kind of case: its role, and the words, in which LONG stands for it. TAPE, OBJECT and SOURCE are good files.
 FORMS = {
     "asm": (("source", ["-o", "OUT", "-l", "OUT.LST", HERE]), ("source", ["-o", "OUT", HERE])),
     "link": (("object", ["-o", "OUT", "-m", "OUT.MAP", HERE]), ("object", ["-o", "OUT", "OBJECT", HERE])),
     "sim": (("tape", ["-n", "1000", HERE]),),
     "dump": (("object", [HERE]), ("object", ["-d", HERE]), ("tape", ["-d", HERE]), ("library", [HERE]), ("object", ["-m", HERE]),
-             *((role, ["-d", "-y", HERE, "TAPE"]) for role in ("map", "load map", "listing", "object"))),
-    "trace": (("tape", ["-n", "1000", HERE]), *((role, ["-n", "1000", "-y", HERE, "TAPE"]) for role in ("map", "load map", "listing", "object"))),
+             *((role, ["-d", "-y", HERE, "TAPE"]) for role in NAMES)),
+    "trace": (("tape", ["-n", "1000", HERE]), *((role, ["-n", "1000", "-y", HERE, "TAPE"]) for role in NAMES)),
     "build": (("source", ["-o", "OUT", HERE]), ("source", ["--strict", "-v", HERE]), ("source", ["-y", HERE, "SOURCE"]), ("macros", ["-y", HERE, "SOURCE"]),
               ("library", ["-L", HERE, "SOURCE"]), ("object", ["SOURCE", "LONG.OBJ"])),
-    "debug": (*((role, ["-n", "1000", "-y", HERE, "TAPE"]) for role in ("map", "load map", "listing", "object")), ("tape", ["-n", "1000", HERE]), ("session", ["-n", "1000", "TAPE"])),
+    "debug": (*((role, ["-n", "1000", "-y", HERE, "TAPE"]) for role in NAMES), ("tape", ["-n", "1000", HERE]), ("session", ["-n", "1000", "TAPE"])),
     "adapt": (("source", [HERE]), ("source", ["-l", HERE, "SOURCE"])),
-    "lines": (("source", ["-m", "M11", "-w", HERE]), ("object", ["-m", "M11", HERE]), ("messages", ["-m", "M11", "-w", "SOURCE"]), ("listing", ["-m", "M11", "-w", "-l", HERE, "SOURCE"])),
+    "lines": (("source", ["-m", "M11", "-w", HERE]), ("object", ["-m", "M11", HERE]), ("messages", ["-m", "M11", "-w", "SOURCE"]),
+              ("listing", ["-m", "M11", "-w", "-l", HERE, "SOURCE"])),
     "unlib": (("library", ["-t", HERE]), ("library", ["-o", "NEW", HERE])),
     "unmac": (("macros", [HERE]),),
     "sav": (("tape", ["-o", "OUT", HERE]), ("save", ["-t", "-o", "OUT", HERE])),
@@ -40,9 +42,38 @@ def is_long(number, kinds):
     return number // kinds % EVERY == EVERY - 1
 
 
+# Lines with a number that goes up, and with the next one.
+COUNTED = {
+    "source": (b"\t.MACRO\tC%d\n\tC%d\n\t.ENDM\n", b"L%d:\tBR\tL%d\n", b"A%d=A%d+1\n", b"\t.MACRO\tN%d\n\tBR\t%d$\n", b"\t.PSECT\tP%d\n\t.WORD\tG%d\n",
+               b"\t.IF DF X%d\nY%d:\n", b"\t.ENABL\tLSB\n%d$:\tBR\t%d$\n", b"%d$:\tBR\t%d$\n", b"\t.REPT\t%d\n\t.WORD\t%d\n", b"\t.IRP X%d,<%d>\n",
+               b"\tC%d\t#X%d\n", b"\t.MCALL\tM%d,N%d\n", b"\t.GLOBL\tG%d,H%d\n", b"\t.SAVE\n\t.PSECT\tP%d\n\tM%d\n", b"\t.INCLUDE\t/%d/\n\t.LIBRARY /%d/\n",
+               b"\t.MACRO\tM F%d,?G%d\n", b"Z%d:\n\t.IIF NE Z%d, BR 1$\n"),
+    "map": (b"%06o 000002 P%d\n", b"G%-5d 001000 M%d\n"), "load map": (b"  %06o 000002 P%-5d M\n", b"  %06o G%-5d M\n"),
+    "session": (b"e %o\n;%d\n", b"b %o\n;%d\n"), "packed": (b"\34F%d 3\n%03d",), "messages": (b"Q %d: A%d\n", b"UNDEFINED GLOBAL G%d\n;%d\n"),
+    "listing": (b"       %4d %06o 000240                  NOP\n", b"L%-5d   %06o R    1\n", b"P%-5d 000002 %3d RW,I,LCL,REL,CON\n"),
+}
+
+
+class Counted:
+    """A piece that is another one each time."""
+
+    def __init__(self, form):
+        self.form = form
+
+    def __len__(self):
+        return len(self.form % (1000, 1001))
+
+    def __mul__(self, times):
+        return b"".join(self.form % (number, number + 1) for number in range(1, times + 1))
+
+
 def parts(role, chance, good):
     """The beginning of a long file, what is repeated in it, and its end."""
     content = chance.choice(good.files[role.name])
+    if role.name in COUNTED and chance.random() < .4:
+        lines = content.split(b"\n")
+        at = chance.randrange(len(lines))
+        return b"\n".join(lines[:at] + [b""]), Counted(chance.choice(COUNTED[role.name])), b"\n".join(lines[at:])
     if role.is_text and chance.random() < .8:
         lines = content.split(b"\n")
         at = chance.randrange(len(lines))

@@ -14,8 +14,9 @@ from .judging import judged
 from .lengths import is_long, judged_lengths
 from .running import Folders, run
 
-ABOUT = """Calls the programs and the scripts with damaged and random files, and with odd words, and prints each finding: a crash, a hang, a traceback, a status or
-a text that no page lists, an output where none is left, too much memory, or a time that grows faster than the file. The last line is `N cases, M findings`."""
+ABOUT = """Calls the programs and the scripts with damaged and random files, and with odd words, and prints each finding: a crash, a hang, a
+traceback, a status or a text that no page lists, an output where none is left, too much memory, or a time that grows faster than the file.
+The last line is `N cases, M findings`."""
 STATUS = "Status 0: nothing was found. 1: something was found. 2: the words are refused."
 SCRIPTS = ("m11", "m11-dump", "m11-trace", "m11-build", "m11-debug")
 
@@ -25,10 +26,12 @@ def words(argv):
     parser.add_argument("--seed", metavar="N", type=int, default=1, help="the seed of all cases; by default 1")
     parser.add_argument("--minutes", metavar="N", type=float, help="how long to go on; by default 1 minute if --cases isn't given")
     parser.add_argument("--cases", metavar="N", type=int, help="how many cases to make at most")
-    parser.add_argument("--only", metavar="KIND", choices=list(KINDS), action="append", help=f"only cases of a kind, which may be given again: {', '.join(KINDS)}")
+    parser.add_argument("--only", metavar="KIND", choices=list(KINDS), action="append",
+                        help=f"only cases of a kind, which may be given again: {', '.join(KINDS)}")
     parser.add_argument("--long", action="store_true", help="only cases with long files")
     parser.add_argument("--again", metavar=("SEED", "NUMBER"), type=int, nargs=2, help="make one case again, print its command, and keep its files")
-    parser.add_argument("--programs", metavar="FOLDER", default=os.path.join(places.TOP, "dist"), help="the folder of m11, m11-dump and m11-trace; by default dist")
+    parser.add_argument("--programs", metavar="FOLDER", default=os.path.join(places.TOP, "dist"),
+                        help="the folder of m11, m11-dump and m11-trace; by default dist")
     given = parser.parse_args(argv)
     for name in SCRIPTS[:3]:
         if not os.access(os.path.join(given.programs, name), os.X_OK):

@@ -60,8 +60,10 @@ def used():
 
 
 def beginning(path):
+    """The first bytes of a stream, in whole lines if it has more."""
     with open(path, "rb") as file:
-        return file.read(SHOWN)
+        content = file.read(SHOWN)
+    return content if len(content) < SHOWN else content[:content.rfind(b"\n") + 1]
 
 
 def run(case, folders, patience=PATIENCE):
