@@ -9,6 +9,8 @@ PLACES = ("START", "SORT+2", "1000", "0", "160000", "177560", "177777", "157776"
           "COUNT 3", "\"x\"<15>", "<400>", "end", "forget", "\"\\r\\n", "exactly", "R4 exactly", "/", "none", "F0.TAP", "SAVED", "1" * 4500, "9" * 5000 + ".",
           "+" * 500, "1+" * 500 + "1", "A" * 300, "\u0661", "\u00b2", "%", "5 6 7", "-5", "99999999999999999999", "2000000000", "1000000000", "0.", "x", "'A",
           "#5", "PSW", "R9", "R7", "\u00e9")
+# How many lines a session has at most.
+MOST = 50
 
 
 def command(case):
@@ -26,6 +28,8 @@ def session(case):
             lines.append(case.chance.choice(case.good_of("session").decode("latin-1").split("\n")))
         else:
             lines.append(command(case))
-    # A session that reads its own file would not end by itself.
     text = "\n".join(lines).encode("utf-8", "surrogateescape") + b"\n"
-    return by_lines(text, case.chance, case.good.files["session"]) if case.one_in(4) else text
+    if case.one_in(4):
+        text = by_lines(text, case.chance, case.good.files["session"])
+    # Each command may take a call of m11-trace, so more of them take longer than a case has.
+    return b"\n".join(text.split(b"\n")[:MOST]) + b"\n"

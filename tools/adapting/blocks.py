@@ -1,6 +1,6 @@
 """The third step: blocks of local symbols that .ENABL LSB opens. m11 ends a block at each label, so local
 symbols that are used across a label become names."""
-from .macros import has_boundary, reaches
+from .macros import all_that_reach, has_boundary
 from .names import SECTIONS, TEXTS, six
 from .scan import BLANKS, LOCAL, TOO_LONG, change, fitted, names_in, tokens
 from .walk import walk
@@ -17,7 +17,7 @@ class Block:
 
 class Blocks:
     def __init__(self, lines, macros, reports):
-        self.lines, self.macros, self.reports = lines, macros, reports
+        self.lines, self.macros, self.reports, self.ending = lines, macros, reports, all_that_reach(macros, has_boundary)
         self.used = set().union(*(names_in(line.text) for line in lines)) if lines else set()
         self.block, self.done, self.last, self.depth, self.before = None, [], 0, 0, set()
 
@@ -48,11 +48,10 @@ class Blocks:
         if labels or op in SECTIONS:
             self.boundary()
         self.locals(place, line, op)
-        macros = self.macros.get(op, [])
-        if any(reaches(macro, self.macros, has_boundary) for macro in macros):
+        if op in self.ending:
             self.boundary()
         if self.block:
-            self.block.calls += [(macro, line) for macro in macros]
+            self.block.calls += [(macro, line) for macro in self.macros.get(op, [])]
 
     def mode(self, place, line, op):
         if place.in_macro or place.formals:

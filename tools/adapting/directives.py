@@ -1,7 +1,7 @@
 """The change of each directive that m11 doesn't accept, or reads in another way."""
 import os
 
-from .names import CANNOT, CONDITIONS, LISTED, NO_LINES, ONE_WORD, OPENERS, REWRITTEN, SECTIONS, TAKEN, WHY_NOT, WITHOUT_BYTES, six
+from .names import CANNOT, CONDITIONS, DEEPEST, LISTED, NO_LINES, ONE_WORD, OPENERS, REWRITTEN, SECTIONS, TAKEN, WHY_NOT, WITHOUT_BYTES, six
 from .names import DIRECTIVES, INSTRUCTIONS, TEXT_CONDITIONS
 from .scan import BLANKS, NAME, WIDTH, Statement, actual_end, actuals, change, skip_blanks, tokens
 
@@ -65,6 +65,8 @@ def include(reader, line, statement):
         return reader.report(line, f"the file {path} isn't there; name its folder by -i")
     if os.path.realpath(found) in reader.open_files:
         return reader.report(line, f"the file {path} includes itself")
+    if len(reader.open_files) > DEEPEST:
+        return reader.report(line, f"the file {path} isn't included, since files are nested more than {DEEPEST} deep here")
     reader.leave_out(line, statement)
     if not line.end:
         reader.out[-1].end = "\n"
@@ -87,6 +89,7 @@ def mdelete(reader, line, statement):
     for name in names:
         if name in DIRECTIVES or name in INSTRUCTIONS:
             return reader.report(line, f"m11 can't delete a macro, and {name} is an operator too")
+    reader.reached.clear()
     for name in names:
         reader.macros.pop(name, None)
         reader.deleted.add(name)

@@ -14,10 +14,16 @@ class Macro:
     """A macro by its formals and the statements of its body."""
 
     def __init__(self, name, formals, sure):
-        self.name, self.formals, self.sure, self.body = name, formals, sure, []
+        self.name, self.formals, self.sure, self.body, self.called = name, formals, sure, [], set()
+
+    def add(self, statement):
+        """Adds a statement to the body."""
+        self.body.append(statement)
+        if statement.kind == "operator":
+            self.called.add(statement.op)
 
     def operators(self):
-        return {statement.op for statement in self.body if statement.kind == "operator"}
+        return self.called
 
     def shape(self):
         return [(formal.name, formal.default) for formal in self.formals]
@@ -172,16 +178,34 @@ def may_be_empty(word, outer, filled):
     return bool(names) and names <= outer - filled and not NAME.sub("", word).strip("<>' \t")
 
 
-def reaches(macro, macros, wanted, seen=None):
+def reaches(macro, macros, wanted):
     """Whether the body of a macro, or one that it calls, satisfies `wanted`."""
-    seen = set() if seen is None else seen
-    if id(macro) in seen:
-        return False
-    seen.add(id(macro))
-    if wanted(macro):
-        return True
-    inner = [one for op in macro.operators() for one in macros.get(op, [])]
-    return any(reaches(one, macros, wanted, seen) for one in inner)
+    todo, seen = [macro], set()
+    while todo:
+        one = todo.pop()
+        if id(one) not in seen:
+            seen.add(id(one))
+            if wanted(one):
+                return True
+            todo += [inner for op in one.operators() for inner in macros.get(op, [])]
+    return False
+
+
+def all_that_reach(macros, wanted):
+    """The names of all macros whose bodies, or those of macros that they call, satisfy `wanted`."""
+    callers, found = {}, set()
+    for name, ones in macros.items():
+        for one in ones:
+            for op in one.operators():
+                callers.setdefault(op, set()).add(name)
+        if any(wanted(one) for one in ones):
+            found.add(name)
+    todo = list(found)
+    while todo:
+        new = callers.get(todo.pop(), set()) - found
+        found |= new
+        todo += new
+    return found
 
 
 def switches(macro):

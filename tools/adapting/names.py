@@ -72,6 +72,9 @@ CFCC SETF SETI SETD SETL LDFPS STFPS STST CLRF CLRD TSTF TSTD ABSF ABSD NEGF NEG
 SUBF SUBD CMPF CMPD STF STD DIVF DIVD STEXP STCFI STCFL STCDI STCDL STCFD STCDF LDEXP LDCIF LDCID LDCLF LDCLD LDCDF
 LDCFD""".split())
 
+# How deep bodies, files of .INCLUDE, and macros of libraries that need one another are nested at most. Each level costs time at each line.
+DEEPEST = 64
+
 
 def six(name):
     """A name as it counts."""

@@ -4,7 +4,7 @@ import os
 from . import directives
 from .capitals import in_capitals
 from .macros import Call, Formal, Libraries, Macro, formals_of, reaches, restores, switches, used_across_sections
-from .names import CLOSERS, DIRECTIVES, INSTRUCTIONS, ONE_WORD_CODES, OPENERS, OTHER_MODELS, six
+from .names import CLOSERS, DEEPEST, DIRECTIVES, INSTRUCTIONS, ONE_WORD_CODES, OPENERS, OTHER_MODELS, six
 from .scan import NAME, SPACED_LABEL, TOO_LONG, WIDTH, Line, Statement, change, fitted, names_in, with_brackets
 
 
@@ -22,16 +22,15 @@ class Reports:
     """The messages on standard error. A report leaves status 1, and a note doesn't."""
 
     def __init__(self):
-        self.lines, self.failed = [], False
+        # Each one once, in order.
+        self.lines, self.failed = {}, False
 
     def report(self, line, sentence):
         self.failed = True
         self.note(line, sentence)
 
     def note(self, line, sentence):
-        said = f"{line.file}:{line.number}: {sentence}"
-        if said not in self.lines:
-            self.lines.append(said)
+        self.lines[f"{line.file}:{line.number}: {sentence}"] = True
 
 
 class Reader:
@@ -41,6 +40,8 @@ class Reader:
         self.texts, self.libraries, self.folders, self.reports, self.known = texts, libraries, folders, reports, known or {}
         self.out, self.front, self.front_branches = [], 0, []
         self.macros, self.bodies, self.branches = {}, [], []
+        # How many bodies are open that are nested too deep, and what was found of macros since a body changed.
+        self.deeper, self.reached = 0, {}
         self.placing, self.open_files, self.restore_known = set(), [], False
         self.remark, self.ended, self.any_macro_call = None, False, False
         self.deleted, self.missing = set(), set()
@@ -117,7 +118,8 @@ class Reader:
         if self.bodies and self.bodies[-1].macro:
             for body in self.bodies:
                 if body.macro:
-                    body.macro.body.append(statement)
+                    body.macro.add(statement)
+            self.reached.clear()
         if statement.kind != "operator":
             return directives.assignment(self, line, statement)
         op = statement.op
@@ -184,6 +186,9 @@ class Reader:
         return self.bodies[-1].filled if self.bodies else set()
 
     def open_body(self, line, statement):
+        if len(self.bodies) == DEEPEST:
+            self.deeper += 1
+            return self.report(line, f"bodies are nested more than {DEEPEST} deep here; what belongs to this one isn't looked at as such")
         if not self.bodies:
             self.front, self.front_branches = len(self.out), list(self.branches)
         found = NAME.search(line.text, statement.b)
@@ -207,7 +212,9 @@ class Reader:
         self.write(line, text)
 
     def close_body(self, line):
-        if self.bodies:
+        if self.deeper:
+            self.deeper -= 1
+        elif self.bodies:
             body = self.bodies.pop()
             del self.branches[body.depth:]
             if body.saved:
@@ -270,13 +277,20 @@ class Reader:
     def mind_sections(self, line, macro):
         """A macro that restores the section of its caller gets to know that section."""
         body = self.in_macro()
-        if reaches(macro, self.macros, restores) and not self.defines_restore():
+        if self.reaches(macro, restores) and not self.defines_restore():
             if body and (body.saved or body.section):
                 self.reports.report(line, f"{macro.name} restores a section, and this body is in another one than its caller")
             elif not body:
                 self.tell_section(line)
-        if reaches(macro, self.macros, switches):
+        if self.reaches(macro, switches):
             (body or self).section = (None, [])
+
+    def reaches(self, macro, wanted):
+        """Whether the body of a macro, or one that it calls, satisfies `wanted`."""
+        key = id(macro), wanted
+        if key not in self.reached:
+            self.reached[key] = reaches(macro, self.macros, wanted)
+        return self.reached[key]
 
     def defines_restore(self):
         """Whether the sources themselves define .RESTORE."""
@@ -295,15 +309,17 @@ class Reader:
         """Puts the definition of a library's macro here, or in front of the outermost body that is open."""
         if name in self.placing or self.defines(name):
             return
-        kept = self.out, self.bodies, self.branches, self.front, self.front_branches
+        if len(self.placing) == DEEPEST:
+            return self.reports.report(line, f"the macro {name} isn't put here, since more than {DEEPEST} macros of libraries need one another")
+        kept = self.out, self.bodies, self.branches, self.front, self.front_branches, self.deeper
         if self.bodies:
             self.branches = list(self.front_branches)
-        self.out, self.bodies = [], []
+        self.out, self.bodies, self.deeper = [], [], 0
         self.placing.add(name)
         self.run([Line(one.text, one.end or "\n", one.file, one.number) for one in self.libraries.bodies[name]])
         self.placing.discard(name)
         new = self.out
-        self.out, self.bodies, self.branches, self.front, self.front_branches = kept
+        self.out, self.bodies, self.branches, self.front, self.front_branches, self.deeper = kept
         at = self.front if self.bodies else len(self.out)
         self.out[at:at] = new
         self.front += len(new) if self.bodies else 0

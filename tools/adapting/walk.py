@@ -1,5 +1,5 @@
 """Goes through the lines of a program, with the bodies that contain each of them."""
-from .names import CLOSERS, OPENERS, six
+from .names import CLOSERS, DEEPEST, OPENERS, six
 from .scan import NAME, Statement
 from .macros import formals_of
 
@@ -12,15 +12,20 @@ class Place:
 
 
 def walk(lines):
-    bodies = []
+    """The place of each line. Bodies that are nested too deep aren't told from the one around them."""
+    bodies, deeper = [], 0
     for index, line in enumerate(lines):
         statement = Statement(line.text)
         operator = statement.op if statement.kind == "operator" else ""
-        if operator in CLOSERS and bodies:
+        if operator in CLOSERS and deeper:
+            deeper -= 1
+        elif operator in CLOSERS and bodies:
             bodies.pop()
         formals = set().union(*(names for _, names in bodies))
         yield Place(index, statement, formals, [macro for macro, _ in bodies if macro])
-        if operator in OPENERS:
+        if operator in OPENERS and len(bodies) == DEEPEST:
+            deeper += 1
+        elif operator in OPENERS:
             found = NAME.search(line.text, statement.b)
             bodies.append((six(found.group()) if operator == ".MACRO" and found else None, _formals(line.text, statement)))
 

@@ -108,4 +108,28 @@ def check_carriage_returns_in_lines():
         return wrong + differ("half a character", adapt(folder, "S.MAC"), (3, b"", b"adapt: S.MAC: it begins as UTF-16, and isn't\n"))
 
 
-CHECKS = [("texts-" + check.__name__[6:].replace("_", "-"), check, ()) for check in (check_pipes, check_encodings_and_ends, check_carriage_returns_in_lines)]
+def check_deep():
+    """Macros that call one another in a long row, bodies, files and macros of libraries that are nested too deep, and many reports."""
+    with tempfile.TemporaryDirectory() as folder:
+        row = "".join(f"\t.MACRO\tC{number}\n\tC{number + 1}\n\t.ENDM\n" for number in range(3000))
+        put(folder, f"{row}\tC0\n\t.END\n".encode())
+        wrong = differ("macros in a row", adapt(folder, "S.MAC"), (0, content(folder, "S.MAC"), b""))
+        os.rename(os.path.join(folder, "S.MAC"), os.path.join(folder, "L.MAC"))
+        put(folder, b"\t.MCALL\tC0\n\tC0\n\t.END\n")
+        status, out, said = adapt(folder, "-l", "L.MAC", "S.MAC")
+        told = b"L.MAC:191: the macro C64 isn't put here, since more than 64 macros of libraries need one another\n"
+        wrong += differ("macros of a library in a row", (status, out.count(b".MACRO"), said), (1, 64, told))
+        put(folder, "".join(f"\t.MACRO\tN{number}\n" for number in range(3000)).encode() + b"\t.ENDM\n" * 3000)
+        status, out, said = adapt(folder, "S.MAC")
+        told = b"S.MAC:65: bodies are nested more than 64 deep here; what belongs to this one isn't looked at as such"
+        wrong += differ("bodies", (status, out, said.split(b"\n")[0], said.count(b"\n")), (1, content(folder, "S.MAC"), told, 3000 - 64))
+        for number in range(80):
+            with open(os.path.join(folder, f"I{number}.MAC"), "wb") as file:
+                file.write(b'\t.INCLUDE "I%d.MAC"\n' % (number + 1))
+        status, out, said = adapt(folder, "I0.MAC")
+        told = b"I64.MAC:1: the file I65.MAC isn't included, since files are nested more than 64 deep here\n"
+        return wrong + differ("files", (status, out.count(b";.INCLUDE"), said), (1, 64, told))
+
+
+CHECKS = [("texts-" + check.__name__[6:].replace("_", "-"), check, ()) for check in (
+    check_pipes, check_encodings_and_ends, check_carriage_returns_in_lines, check_deep)]
