@@ -7,10 +7,10 @@ from .walk import walk
 
 
 class Block:
-    """The local symbols of a block: the segments in which each one occurs, and its places."""
+    """The local symbols of a block: the segments in which each one occurs, and its places. `began` is how many occurred before it since a boundary."""
 
-    def __init__(self, line, depth, earlier):
-        self.line, self.depth, self.earlier = line, depth, earlier
+    def __init__(self, line, depth, began):
+        self.line, self.depth, self.began = line, depth, began
         self.ending = self.crossing = False
         self.segments, self.defined, self.uses, self.calls, self.segment = {}, set(), [], [], 0
 
@@ -19,7 +19,9 @@ class Blocks:
     def __init__(self, lines, macros, reports):
         self.lines, self.macros, self.reports, self.ending = lines, macros, reports, all_that_reach(macros, has_boundary)
         self.used = set().union(*(names_in(line.text) for line in lines)) if lines else set()
-        self.block, self.done, self.last, self.depth, self.before = None, [], 0, 0, set()
+        self.block, self.done, self.last, self.depth = None, [], 0, 0
+        # The local symbols since the last boundary, each with how many others there were before it.
+        self.before = {}
 
     def run(self):
         for place in walk(self.lines):
@@ -58,7 +60,7 @@ class Blocks:
             return self.reports.report(line, f"{op} LSB stands in a body; number its local symbols by hand")
         if op == ".ENABL":
             self.close()
-            self.block = Block(line, self.depth, set(self.before))
+            self.block = Block(line, self.depth, len(self.before))
         elif self.block:
             self.block.ending = True
         line.text = line.text[:place.statement.a] + ";" + line.text[place.statement.a:]
@@ -78,7 +80,7 @@ class Blocks:
             self.close()
         if self.block:
             self.block.segment += 1
-        self.before = set()
+        self.before = {}
 
     def close(self):
         if self.block:
@@ -99,11 +101,10 @@ class Blocks:
 
     def note(self, name, index, begin, end, defines):
         number = int(name.rstrip("$"))
-        self.before.add(number)
-        block = self.block
+        first, block = self.before.setdefault(number, len(self.before)), self.block
         if not block:
             return
-        if block.segment == 0 and number in block.earlier:
+        if block.segment == 0 and first < block.began:
             block.crossing = True
         block.segments.setdefault(number, set()).add(block.segment)
         block.uses.append((number, index, begin, end))

@@ -40,6 +40,8 @@ NOT_HERE = {"deposit": "each state is that of the run, so nothing can be changed
 # What ODT's forms mean here: PLACE/ PLACE;B ;P ;G
 ODT = ((re.compile(r"\$([0-7])/$"), r"evaluate R\1"), (re.compile(r"([^\s/;]+)/$"), r"examine \1"), (re.compile(r"([^\s/;]+);[Bb]$"), r"break \1"),
        (re.compile(r";[PpGg]$"), "go"))
+# The most characters of a command: the time that its parts are looked for in grows faster than its length.
+LONGEST = 4096
 PIECE = re.compile(r'\s*(?:"((?:[^"\\]|\\.)*)"|<([0-7]{1,3})>)')
 ESCAPES = {"r": "\r", "n": "\n", "t": "\t", "e": "\33", "b": "\b", "0": "\0"}
 
@@ -60,6 +62,8 @@ class Commands:
     def run(self, text):
         """Makes a command. Empty lines and comments, after a semicolon, do nothing."""
         text = text.strip()
+        if len(text) > LONGEST:
+            raise Refused(f"a command has at most {LONGEST} characters, and this one has {len(text)}; -i gives longer inputs")
         for form, command in ODT:
             text = form.sub(command, text)
         if not text or text.startswith(";"):

@@ -123,6 +123,9 @@ def check_deep():
         status, out, said = adapt(folder, "S.MAC")
         told = b"S.MAC:65: bodies are nested more than 64 deep here; what belongs to this one isn't looked at as such"
         wrong += differ("bodies", (status, out, said.split(b"\n")[0], said.count(b"\n")), (1, content(folder, "S.MAC"), told, 3000 - 64))
+        put(folder, "".join(f"\t.ENABL\tLSB\n{number}$:\tBR\t{number + 1}$\n" for number in range(9000)).encode())
+        status, out, _ = adapt(folder, "S.MAC")
+        wrong += differ("blocks", (status, out.count(b";.ENABL")), (0, 9000))
         for number in range(80):
             with open(os.path.join(folder, f"I{number}.MAC"), "wb") as file:
                 file.write(b'\t.INCLUDE "I%d.MAC"\n' % (number + 1))
