@@ -4,5 +4,6 @@ pub mod Meant
 pub mod Spelled
 pub mod FirstLines
 pub mod FoundSymbols
+pub mod FoundContributions
 pub mod MapText
 pub mod Nearest

@@ -7,6 +7,7 @@ use Rattle.m11_base.specs.Rad50.{Name, name_of}
 use Rattle.m11_base.specs.declared.fault.OctalFault.{OctalFault}
 use Rattle.m11_base_disassembly.specs.declared.map_fault.MapFault.{MapFault}
 use Rattle.m11_base_disassembly.specs.declared.map_fault.MapFault.TheVariants.{BadMap}
+use Rattle.m11_base_disassembly.specs.declared.symbols.Scope.TheVariants.{Unknown}
 use Rattle.m11_base_disassembly.specs.declared.symbols.Symbol.{Symbol}
 
 -- the character in a column
@@ -34,8 +35,8 @@ number_by (Err fault) = Err BadMap
 abbrev pub number_at : Bytes → ℕ → Result ℕ MapFault
 number_at line first = number_by (octal_of (six_at line first))
 
--- the symbol with this name and this value; `BadMap` if there is no name or the value is an error
+-- the symbol with this name and this value, in no section that is known; `BadMap` if there is no name or the value is an error
 abbrev pub symbol_with : Option Name → Result ℕ MapFault → Result (Option Symbol) MapFault
-symbol_with (Some name) (Ok value) = Ok (Some (record { name = name; value = value }))
+symbol_with (Some name) (Ok value) = Ok (Some (record { name = name; value = value; scope = Unknown }))
 symbol_with (Some name) (Err fault) = Err BadMap
 symbol_with None value = Err BadMap

@@ -1,5 +1,6 @@
 pub mod Arguments
 pub mod Columns
+pub mod Contributions
 pub mod Instructions
 pub mod Lines
 pub mod Listings
@@ -7,6 +8,7 @@ pub mod MapFault
 pub mod Maps
 pub mod Meaning
 pub mod Numbers
+pub mod Places
 pub mod Rows
 pub mod Statements
 pub mod Symbols

@@ -1,15 +1,43 @@
--- The symbols in a text: the map of a link, a load map, or a listing. (This project's own; docs/COMMANDS.md, "Names of addresses".)
+-- The names in texts: the maps of links, load maps, and listings. (This project's own; docs/COMMANDS.md, "Names of addresses".)
 use Rattle.std.specs.Prelude.{◌≡◌, ℕ, ◌<◌, if◌then◌else◌, List, [], ◌++◌, ◌⊎◌, length, codes, Option, Some, None, Result, Ok, Err}
-use Rattle.std.specs.Option.{option_to_list}
+use Rattle.std.specs.Option.{option_map, option_to_list}
 use Rattle.std.specs.Str.{bytes_eq}
 use Rattle.m11_base.specs.Devices.{Bytes, Rises}
 use Rattle.m11_base.specs.Feed.{BeginsWith, Text}
 use Rattle.m11_base_disassembly.specs.Columns.{six_at}
+use Rattle.m11_base_disassembly.specs.Contributions.{contributions_of, section_symbols}
 use Rattle.m11_base_disassembly.specs.Lines.{lines_after, lines_of}
-use Rattle.m11_base_disassembly.specs.Rows.{Rows, link_rows, listing_rows, load_rows, symbols_in}
+use Rattle.m11_base_disassembly.specs.Places.{place_of}
+use Rattle.m11_base_disassembly.specs.Rows.{Rows, link_rows, listing_rows, load_rows, placed_rows, symbols_in}
+use Rattle.m11_base_disassembly.specs.declared.contributions.Contribution.{Contribution}
 use Rattle.m11_base_disassembly.specs.declared.map_fault.MapFault.{MapFault}
-use Rattle.m11_base_disassembly.specs.declared.map_fault.MapFault.TheVariants.{Read, BadMap, TooMuch, NoMemory}
+use Rattle.m11_base_disassembly.specs.declared.map_fault.MapFault.TheVariants.{Read, BadMap, TooMuch, NoModule, NoMemory}
+use Rattle.m11_base_disassembly.specs.declared.maps.NamesSoFar as declared
 use Rattle.m11_base_disassembly.specs.declared.symbols.Symbol.{Symbol}
+
+-- ---- what files of names give
+
+-- what files of names have given so far: the names in maps, load maps and listings, in order, where the sections in a load map come after its
+-- globals; and the contributions at which further listings may lie: those in the last load map without those of modules whose listings came
+-- after it, none after a listing without a load map, or None before a load map and before a listing
+pub record NamesSoFar : Type 0 where
+  pub symbols : List Symbol
+  pub contributions : Option (List Contribution)
+
+abbrev pub nothing : NamesSoFar
+nothing = record { symbols = []; contributions = None }
+
+abbrev pub so_far : declared.NamesSoFar → NamesSoFar
+so_far names = record {
+  symbols = names.symbols.items;
+  contributions = option_map (λ found. found.items) names.contributions;
+}
+
+-- the names of a file that is no load map, after the old names
+abbrev pub with_symbols : NamesSoFar → Option (List Contribution) → Result (List Symbol) MapFault → Result NamesSoFar MapFault
+with_symbols old contributions (Ok symbols) =
+    Ok (record { symbols = old.symbols ++ symbols; contributions = contributions })
+with_symbols old contributions (Err fault) = Err fault
 
 -- ---- which form a text has
 
@@ -17,19 +45,48 @@ use Rattle.m11_base_disassembly.specs.declared.symbols.Symbol.{Symbol}
 abbrev pub globals_in : Rows → List Bytes → Result (List Symbol) MapFault
 globals_in rows lines = elim (lines_after (codes "GLOBALS") lines) [ Some globals ↦ symbols_in rows globals | None ↦ Err BadMap ]
 
--- the names in a symbol table, whose sections are in the lines after its first empty line; `BadMap` if there is no such line
-abbrev pub names_in : ℕ → List Bytes → Result (List Symbol) MapFault
-names_in bottom table =
-    elim (lines_after [] table) [ Some sections ↦ symbols_in (listing_rows bottom sections) table | None ↦ Err BadMap ]
+-- what a load map with these contributions and globals gives
+abbrev pub with_globals : NamesSoFar → List Contribution → Result (List Symbol) MapFault → Result NamesSoFar MapFault
+with_globals old contributions (Ok symbols) = Ok (record {
+  symbols = (old.symbols ++ symbols) ++ section_symbols contributions contributions;
+  contributions = Some contributions;
+})
+with_globals old contributions (Err fault) = Err fault
 
--- the symbols of a text: of a load map, if it begins with `LIMIT `; of a listing, if it has a line SYMBOL TABLE; otherwise of the map of a
--- link
-abbrev pub symbols_of : ℕ → Bytes → Result (List Symbol) MapFault
-symbols_of bottom text =
-    if bytes_eq (six_at text 0) (codes "LIMIT ") then globals_in load_rows (lines_of text)
+abbrev pub with_load_map : NamesSoFar → List Bytes → Result NamesSoFar MapFault
+with_load_map old lines = elim (contributions_of lines) [
+  | Ok contributions ↦ with_globals old contributions (globals_in (load_rows contributions) lines)
+  | Err fault ↦ Err fault
+]
+
+-- what a listing gives with the contributions of a load map; `NoModule` if none of its modules has such sections
+abbrev pub with_placed : NamesSoFar → List Contribution → List Bytes → List Bytes → Result NamesSoFar MapFault
+with_placed old contributions sections table = elim (place_of sections contributions) [
+  | Some place ↦ with_symbols old (Some place.others) (symbols_in (placed_rows place.own sections) table)
+  | None ↦ Err NoModule
+]
+
+-- what a listing with these lines of sections and this symbol table gives. Without a load map before it the listing is that of a module
+-- that a link stores alone, so there is no place for a second one.
+abbrev pub with_listing : ℕ → NamesSoFar → List Bytes → List Bytes → Result NamesSoFar MapFault
+with_listing bottom old sections table = elim old.contributions [
+  | None ↦ with_symbols old (Some []) (symbols_in (listing_rows bottom sections) table)
+  | Some contributions ↦ with_placed old contributions sections table
+]
+
+-- what a listing with this symbol table gives, whose sections are in the lines after its first empty line; `BadMap` if there is no such line
+abbrev pub with_table : ℕ → NamesSoFar → List Bytes → Result NamesSoFar MapFault
+with_table bottom old table =
+    elim (lines_after [] table) [ Some sections ↦ with_listing bottom old sections table | None ↦ Err BadMap ]
+
+-- what files have given with a further text: a load map, if it begins with `LIMIT `; a listing, if it has a line SYMBOL TABLE; otherwise the
+-- map of a link
+abbrev pub with_text : ℕ → NamesSoFar → Bytes → Result NamesSoFar MapFault
+with_text bottom old text =
+    if bytes_eq (six_at text 0) (codes "LIMIT ") then with_load_map old (lines_of text)
     else elim (lines_after (codes "SYMBOL TABLE") (lines_of text)) [
-      | Some table ↦ names_in bottom table
-      | None ↦ globals_in link_rows (lines_of text)
+      | Some table ↦ with_table bottom old table
+      | None ↦ with_symbols old old.contributions (globals_in link_rows (lines_of text))
     ]
 
 -- ---- reading a text
@@ -43,25 +100,31 @@ most_bytes = 16777216
 abbrev pub IsUnread : Option Text → ℕ → ℕ → MapFault → Type 0
 IsUnread text faults faults' Read = Rises faults faults'
 IsUnread text faults faults' BadMap = ⊥
+IsUnread text faults faults' NoModule = ⊥
 IsUnread text faults faults' TooMuch =
     ((bytes : Bytes) × BeginsWith text bytes × (most_bytes < length bytes)) × (faults' ≡ faults)
 IsUnread text faults faults' NoMemory = faults' ≡ faults
 
 -- ---- adding symbols to others
 
--- the symbols found in a text were added after the old ones; or the call failed, with `BadMap` if the text has none of the forms, or with
+-- the symbols of these lines were added after the old ones; or the call failed, with the fault of the first line that has one, or with
 -- `NoMemory`
-abbrev pub Adds : Result (List Symbol) MapFault → List Symbol → List Symbol → Result (Unit {0}) MapFault → Type 0
-Adds found old new (Ok done) = (more : List Symbol) × (found ≡ Ok more) × (new ≡ old ++ more)
-Adds found old new (Err fault) = (fault ≡ NoMemory) ⊎ ((fault ≡ BadMap) × (found ≡ Err BadMap))
-
--- the symbols of these lines were added after the old ones; or the call failed, for a reason that `Adds` allows
 abbrev pub AddsSymbols : Rows → List Bytes → List Symbol → List Symbol → Result (Unit {0}) MapFault → Type 0
-AddsSymbols rows lines old new result = Adds (symbols_in rows lines) old new result
+AddsSymbols rows lines old new (Ok done) = (more : List Symbol) × (symbols_in rows lines ≡ Ok more) × (new ≡ old ++ more)
+AddsSymbols rows lines old new (Err fault) = (fault ≡ NoMemory) ⊎ (symbols_in rows lines ≡ Err fault)
 
--- the symbol of a line, if it has one, was added after the old ones; or the call failed, with `BadMap` because the line doesn't have the
--- form, or with `NoMemory`
+-- the same with the globals in the lines after GLOBALS
+abbrev pub AddsGlobals : Rows → List Bytes → List Symbol → List Symbol → Result (Unit {0}) MapFault → Type 0
+AddsGlobals rows lines old new (Ok done) = (more : List Symbol) × (globals_in rows lines ≡ Ok more) × (new ≡ old ++ more)
+AddsGlobals rows lines old new (Err fault) = (fault ≡ NoMemory) ⊎ (globals_in rows lines ≡ Err fault)
+
+-- the symbol of a line, if it has one, was added after the old ones; or the call failed, with the line's fault, or with `NoMemory`
 abbrev pub AddsSymbol : Rows → Bytes → List Symbol → List Symbol → Result (Unit {0}) MapFault → Type 0
 AddsSymbol rows line old new (Ok done) =
     (symbol : Option Symbol) × (rows.symbol line ≡ Ok symbol) × (new ≡ old ++ option_to_list symbol)
-AddsSymbol rows line old new (Err fault) = (fault ≡ NoMemory) ⊎ ((fault ≡ BadMap) × (rows.symbol line ≡ Err BadMap))
+AddsSymbol rows line old new (Err fault) = (fault ≡ NoMemory) ⊎ (rows.symbol line ≡ Err fault)
+
+-- a call left what was expected; or it failed, with the fault that was expected, or with `NoMemory`
+abbrev pub Leaves : Result NamesSoFar MapFault → NamesSoFar → Result (Unit {0}) MapFault → Type 0
+Leaves expected new (Ok done) = expected ≡ Ok new
+Leaves expected new (Err fault) = (fault ≡ NoMemory) ⊎ (expected ≡ Err fault)

@@ -5,7 +5,7 @@ ghost use Rattle.m11_base_disassembly.specs.Columns as spec;
 ghost use Rattle.m11_base_disassembly.specs.declared.map_fault.MapFault.TheVariants.{BadMap};
 
 use crate::map_fault::MapFault;
-use crate::symbols::Symbol;
+use crate::symbols::{Scope, Symbol};
 use m11_base::{Name, read_octal};
 
 /// The character in a column of a line; a blank after the line's end.
@@ -66,7 +66,7 @@ pub(crate) fn number_at(line: &[u8], first: usize) -> Result<u16, MapFault>
     }
 }
 
-/// The symbol with this name and this value. Error: `BadMap`, if there is no name or the value is an error.
+/// The symbol with this name and this value, in no section that is known. Error: `BadMap`, if there is no name or the value is an error.
 pub(crate) fn symbol_with(
     name: Option<Name>,
     value: Result<u16, MapFault>,
@@ -75,7 +75,11 @@ pub(crate) fn symbol_with(
     ensures bad { IfErr result (λ fault. fault ≡ BadMap) }
 {
     match (name, value) {
-        (Some(name), Ok(value)) => Ok(Some(Symbol { name, value })),
+        (Some(name), Ok(value)) => Ok(Some(Symbol {
+            name,
+            value,
+            scope: Scope::Unknown,
+        })),
         _ => Err(MapFault::BadMap),
     }
 }

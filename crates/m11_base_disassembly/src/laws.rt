@@ -18,8 +18,9 @@ pub fn a_line_means_its_words()
     ensures numbers { (number : ℕ) → number < 65536 → octal_value (number_text number) ≡ number }
 {}
 
-/// The name of an address is that of the symbol with the greatest value that doesn't exceed the address, the first one if there are
-/// several. An address has no name if the values of all symbols exceed it.
+/// The name of an address is that of a symbol that may name it: its value doesn't exceed the address and, if its section is known, its
+/// module's contribution to that section holds the address. Of all such symbols it is one whose section is known, if there is one; of
+/// these it has the greatest value; and of these it is the first. An address has no name if no symbol may name it.
 pub fn an_address_has_the_nearest_name()
     ensures { (address : ℕ) (symbols : List Symbol) → IsNearest address symbols (nearest address symbols) }
 {}

@@ -19,16 +19,19 @@ pub use instructions::{Disassembly, byte_source, disassembled};
 
 // The names of addresses: the lines and columns of maps and listings, and their symbols.
 mod columns;
+mod contributions;
 mod lines;
 mod listings;
 mod map_fault;
 mod maps;
+mod places;
 mod rows;
 mod symbols;
 
+pub use contributions::Contribution;
 pub use map_fault::MapFault;
-pub use maps::{add_names, read_text};
-pub use symbols::{Symbol, address_name};
+pub use maps::{NamesSoFar, read_text};
+pub use symbols::{Scope, Symbol, address_name};
 
 // The laws that an assembler produces the same words from a line, and that a name is the nearest one.
 mod laws;

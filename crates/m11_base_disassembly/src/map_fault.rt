@@ -4,7 +4,7 @@ ghost use Rattle.m11_base_disassembly.specs.MapFault.{line_head};
 ghost use Rattle.m11_base_disassembly.specs.declared.map_fault.MapFault.TheVariants.{NoMemory};
 ghost use Rattle.std.specs.Prelude.{◌≡◌};
 
-use std::alloc::AllocFailed;
+use std::alloc::{AllocError, AllocFailed};
 
 /// Why a file gives no names. Each fault has the number that its message shows.
 #[derive(Clone, Copy, PartialEq, Eq)]
@@ -15,6 +15,9 @@ pub enum MapFault {
     BadMap,
     /// 3: the file has more than 16,777,216 bytes.
     TooMuch,
+    /// 4: a listing after a load map isn't that of a module of the load map, or only of modules whose listings came before; or a listing comes
+    /// after another one without a load map.
+    NoModule,
     /// 90: memory was refused.
     NoMemory,
 }
@@ -23,6 +26,14 @@ impl<T: Drop> From<AllocFailed<T>> for MapFault {
     ghost from_gives = { λ _ e. e ≡ NoMemory };
 
     fn from(_error: AllocFailed<T>) -> MapFault {
+        MapFault::NoMemory
+    }
+}
+
+impl From<AllocError> for MapFault {
+    ghost from_gives = { λ _ e. e ≡ NoMemory };
+
+    fn from(_error: AllocError) -> MapFault {
         MapFault::NoMemory
     }
 }
@@ -36,6 +47,7 @@ impl MapFault {
             MapFault::Read => "?M11 MAP 1 Read OF ",
             MapFault::BadMap => "?M11 MAP 2 BadMap OF ",
             MapFault::TooMuch => "?M11 MAP 3 TooMuch OF ",
+            MapFault::NoModule => "?M11 MAP 4 NoModule OF ",
             MapFault::NoMemory => "?M11 MAP 90 NoMemory OF ",
         }
     }

@@ -1,4 +1,4 @@
-//! The symbols in a link's map, a load map or a listing.
+//! The names in the maps of links, load maps and listings.
 
 ghost use Rattle.std.specs.Prelude.{◌≡◌, IfErr, IfOk};
 ghost use Rattle.m11_base.specs.Feed.{HasBytes};
@@ -7,8 +7,10 @@ ghost use Rattle.m11_base_disassembly.specs.Maps as spec;
 ghost use Rattle.m11_base_disassembly.specs.Rows.{rows_of};
 
 use crate::columns::six_at;
+use crate::contributions::{Contribution, add_sections, contributions_of};
 use crate::lines::{after_line, first_line};
 use crate::map_fault::MapFault;
+use crate::places::place_of;
 use crate::rows::{Form, is_end, may_end, row};
 use crate::symbols::Symbol;
 use m11_base::Feed;
@@ -34,7 +36,17 @@ pub fn read_text<F: Feed>(alloc: Global, feed: &mut F) -> Result<Vec<u8>, MapFau
     Err(MapFault::TooMuch)
 }
 
-// Adds the symbol of a line, if it has one. Errors: `BadMap`; `NoMemory`.
+/// What files of names have given so far.
+#[derive(Drop)]
+pub struct NamesSoFar {
+    /// The names in maps, load maps and listings, in order, where the sections in a load map come after its globals.
+    pub symbols: Vec<Symbol>,
+    /// The contributions at which further listings may lie: those in the last load map without those of modules whose listings came after it,
+    /// or none after a listing without a load map; `None` before a load map and before a listing.
+    pub contributions: Option<Vec<Contribution>>,
+}
+
+// Adds the symbol of a line, if it has one. Errors: those of the line's form; `NoMemory`.
 fn add_symbol(symbols: &mut Vec<Symbol>, form: Form<'_>, line: &[u8]) -> Result<(), MapFault>
     ensures { spec.AddsSymbol (rows_of form.entry) line.now symbols.old.items symbols.new.items result }
 {
@@ -71,7 +83,7 @@ fn add_symbols(symbols: &mut Vec<Symbol>, form: Form<'_>, lines: &[u8]) -> Resul
 
 // Adds the symbols of the lines after the line GLOBALS. Errors: `BadMap`, `NoMemory`.
 fn add_globals(symbols: &mut Vec<Symbol>, form: Form<'_>, text: &[u8]) -> Result<(), MapFault>
-    ensures { spec.Adds (spec.globals_in (rows_of form.entry) (lines_of text.now)) symbols.old.items symbols.new.items result }
+    ensures { spec.AddsGlobals (rows_of form.entry) (lines_of text.now) symbols.old.items symbols.new.items result }
 {
     match after_line(text, b"GLOBALS") {
         Some(lines) => add_symbols(symbols, form, lines),
@@ -79,27 +91,103 @@ fn add_globals(symbols: &mut Vec<Symbol>, form: Form<'_>, text: &[u8]) -> Result
     }
 }
 
-// Adds the names in a symbol table, with relocatable sections that begin at `bottom`. Errors: `BadMap`, `NoMemory`.
-fn add_table(symbols: &mut Vec<Symbol>, bottom: u16, table: &[u8]) -> Result<(), MapFault>
-    ensures { spec.Adds (spec.names_in bottom (lines_of table.now)) symbols.old.items symbols.new.items result }
-{
-    match after_line(table, b"") {
-        Some(sections) => add_symbols(symbols, Form::Listing(bottom, sections), table),
-        None => Err(MapFault::BadMap),
+impl NamesSoFar {
+    /// Before any file: nothing.
+    pub fn new(alloc: Global) -> NamesSoFar
+        ensures { spec.so_far result ≡ spec.nothing }
+    {
+        NamesSoFar {
+            symbols: Vec::new(alloc),
+            contributions: None,
+        }
     }
-}
 
-/// Adds the symbols in a text, in the order of their lines: the globals of a link's map or of a load map, or the names in a listing, with
-/// relocatable sections that begin at `bottom`. Errors: `BadMap`, if its lines don't have one of these forms; `NoMemory`. Some of the
-/// symbols may then have been added.
-pub fn add_names(symbols: &mut Vec<Symbol>, bottom: u16, text: &[u8]) -> Result<(), MapFault>
-    ensures { spec.Adds (spec.symbols_of bottom text.now) symbols.old.items symbols.new.items result }
-{
-    if six_at(text, 0) == *b"LIMIT " {
-        return add_globals(symbols, Form::LoadMap, text);
+    // Adds the globals and the sections of a load map, and keeps its contributions. Errors: `BadMap`, `NoMemory`.
+    fn add_load_map(&mut self, alloc: Global, text: &[u8]) -> Result<(), MapFault>
+        ensures { spec.Leaves (spec.with_load_map (spec.so_far self.old) (lines_of text.now)) (spec.so_far self.new) result }
+    {
+        let contributions = contributions_of(alloc, text)?;
+        add_globals(
+            &mut self.symbols,
+            Form::LoadMap(contributions.as_slice()),
+            text,
+        )?;
+        add_sections(&mut self.symbols, contributions.as_slice())?;
+        self.contributions = Some(contributions);
+        Ok(())
     }
-    match after_line(text, b"SYMBOL TABLE") {
-        Some(table) => add_table(symbols, bottom, table),
-        None => add_globals(symbols, Form::LinkMap, text),
+
+    // Adds the names of a listing that lies where the contributions of the last load map say. Errors: `NoModule`, if its module isn't among
+    // them; `BadMap`, `NoMemory`.
+    fn add_placed(
+        &mut self,
+        alloc: Global,
+        contributions: &[Contribution],
+        sections: &[u8],
+        table: &[u8],
+    ) -> Result<(), MapFault>
+        ensures { spec.Leaves (spec.with_placed (spec.so_far self.old) contributions.now (lines_of sections.now) (lines_of table.now))
+            (spec.so_far self.new) result }
+    {
+        match place_of(sections, contributions) {
+            Some(place) => {
+                add_symbols(&mut self.symbols, Form::Placed(place.own, sections), table)?;
+                let mut others = Vec::new(alloc);
+                others.extend_from_slice(place.before)?;
+                others.extend_from_slice(place.after)?;
+                self.contributions = Some(others);
+                Ok(())
+            }
+            None => Err(MapFault::NoModule),
+        }
+    }
+
+    // Adds the names of a listing with this symbol table and these lines of sections. Errors: `BadMap`, `NoModule`, `NoMemory`.
+    fn add_listing(
+        &mut self,
+        alloc: Global,
+        bottom: u16,
+        sections: &[u8],
+        table: &[u8],
+    ) -> Result<(), MapFault>
+        ensures { spec.Leaves (spec.with_listing bottom (spec.so_far self.old) (lines_of sections.now) (lines_of table.now))
+            (spec.so_far self.new) result }
+    {
+        match self.contributions.take() {
+            Some(contributions) => {
+                self.add_placed(alloc, contributions.as_slice(), sections, table)
+            }
+            None => {
+                add_symbols(&mut self.symbols, Form::Listing(bottom, sections), table)?;
+                self.contributions = Some(Vec::new(alloc));
+                Ok(())
+            }
+        }
+    }
+
+    // Adds the names in a symbol table. Errors: `BadMap`, `NoModule`, `NoMemory`.
+    fn add_table(&mut self, alloc: Global, bottom: u16, table: &[u8]) -> Result<(), MapFault>
+        ensures { spec.Leaves (spec.with_table bottom (spec.so_far self.old) (lines_of table.now)) (spec.so_far self.new) result }
+    {
+        match after_line(table, b"") {
+            Some(sections) => self.add_listing(alloc, bottom, sections, table),
+            None => Err(MapFault::BadMap),
+        }
+    }
+
+    /// Adds what a text gives: the globals and the sections of a load map, the names in a listing, or the globals of a link's map. After a
+    /// load map a listing lies where its module does, the first one whose contributions are those of its sections and that no listing
+    /// took; without a load map its relocatable sections begin at `bottom`. Errors: `BadMap`, if the lines don't have one of these forms;
+    /// `NoModule`, if a load map came before a listing and has no module for it, or another listing came before it and no load map; `NoMemory`. Some of the names may then have been added.
+    pub fn add_text(&mut self, alloc: Global, bottom: u16, text: &[u8]) -> Result<(), MapFault>
+        ensures { spec.Leaves (spec.with_text bottom (spec.so_far self.old) text.now) (spec.so_far self.new) result }
+    {
+        if six_at(text, 0) == *b"LIMIT " {
+            return self.add_load_map(alloc, text);
+        }
+        match after_line(text, b"SYMBOL TABLE") {
+            Some(table) => self.add_table(alloc, bottom, table),
+            None => add_globals(&mut self.symbols, Form::LinkMap, text),
+        }
     }
 }

@@ -5,8 +5,10 @@ ghost use Rattle.m11_base_disassembly.specs.Rows as spec;
 ghost use Rattle.m11_base_disassembly.specs.declared.map_fault.MapFault.TheVariants.{BadMap};
 
 use crate::columns::{column, name_at, number_at, symbol_with};
+use crate::contributions::{Contribution, scope_of};
 use crate::listings::listed_symbol;
 use crate::map_fault::MapFault;
+use crate::places::placed_symbol;
 use crate::symbols::Symbol;
 
 /// Which lines of a text give symbols, and how.
@@ -14,11 +16,13 @@ use crate::symbols::Symbol;
 pub(crate) enum Form<'a> {
     /// The lines of a link's map up to the line UNDEFINED.
     LinkMap,
-    /// The lines of a load map up to its end.
-    LoadMap,
+    /// The lines of a load map up to its end; with its contributions.
+    LoadMap(&'a [Contribution]),
     /// The lines of a listing's symbol table up to an empty line; with the address where relocatable sections begin, and the lines of
     /// sections.
     Listing(u16, &'a [u8]),
+    /// The same with a load map, which shows the contributions from those of the listing's module on; with these, and the lines of sections.
+    Placed(&'a [Contribution], &'a [u8]),
 }
 
 // The global of a line of a link's map: the name, a blank, the value, and a blank. Any other line is `BadMap`.
@@ -33,19 +37,26 @@ fn linked_global(line: &[u8]) -> Result<Option<Symbol>, MapFault>
     }
 }
 
-// The global of a line of a load map: two blanks, the value, a blank, the name, and a blank. Any other line is `BadMap`.
-fn loaded_global(line: &[u8]) -> Result<Option<Symbol>, MapFault>
-    ensures symbol { result ≡ spec.loaded_global line.now }
+// The global of a line of a load map with these contributions: two blanks, the value, a blank, the name, a blank, and the name of its module.
+// Any other line is `BadMap`.
+fn loaded_global(contributions: &[Contribution], line: &[u8]) -> Result<Option<Symbol>, MapFault>
+    ensures symbol { result ≡ spec.loaded_global contributions.now line.now }
     ensures bad { IfErr result (λ fault. fault ≡ BadMap) }
 {
-    if column(line, 0) == b' '
+    let has_blanks = column(line, 0) == b' '
         && column(line, 1) == b' '
         && column(line, 8) == b' '
-        && column(line, 15) == b' '
-    {
-        symbol_with(name_at(line, 9), number_at(line, 2))
-    } else {
-        Err(MapFault::BadMap)
+        && column(line, 15) == b' ';
+    if !has_blanks {
+        return Err(MapFault::BadMap);
+    }
+    match (name_at(line, 9), number_at(line, 2)) {
+        (Some(name), Ok(value)) => Ok(Some(Symbol {
+            name,
+            value,
+            scope: scope_of(name_at(line, 16), value, contributions),
+        })),
+        _ => Err(MapFault::BadMap),
     }
 }
 
@@ -56,8 +67,9 @@ pub(crate) fn row(form: Form<'_>, line: &[u8]) -> Result<Option<Symbol>, MapFaul
 {
     match form {
         Form::LinkMap => linked_global(line),
-        Form::LoadMap => loaded_global(line),
+        Form::LoadMap(contributions) => loaded_global(contributions, line),
         Form::Listing(bottom, sections) => listed_symbol(bottom, sections, line),
+        Form::Placed(own, sections) => placed_symbol(own, sections, line),
     }
 }
 
@@ -67,8 +79,8 @@ pub(crate) fn is_end(form: Form<'_>, line: &[u8]) -> bool
 {
     match form {
         Form::LinkMap => line == b"UNDEFINED".as_slice(),
-        Form::LoadMap => false,
-        Form::Listing(_, _) => line.is_empty(),
+        Form::LoadMap(_) => false,
+        Form::Listing(_, _) | Form::Placed(_, _) => line.is_empty(),
     }
 }
 
@@ -77,7 +89,7 @@ pub(crate) fn may_end(form: Form<'_>) -> bool
     ensures { result ≡ (spec.rows_of form.entry).may_end }
 {
     match form {
-        Form::LoadMap => true,
-        Form::LinkMap | Form::Listing(_, _) => false,
+        Form::LoadMap(_) => true,
+        Form::LinkMap | Form::Listing(_, _) | Form::Placed(_, _) => false,
     }
 }

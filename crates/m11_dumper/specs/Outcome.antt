@@ -51,6 +51,7 @@ abbrev pub map_status : MapFault → ℕ
 map_status map.Read = 3
 map_status map.BadMap = 4
 map_status map.TooMuch = 6
+map_status map.NoModule = 4
 map_status map.NoMemory = 5
 
 abbrev pub stop_status : Stop → ℕ

@@ -4,10 +4,9 @@ use Rattle.std.proofs.lemmas.List.{take_all}
 use Rattle.std.specs.Prelude.{IfErr}
 use Rattle.std.specs.Borrow.{Bor}
 use Rattle.m11_base.specs.Feed.{Text}
-use Rattle.m11_base_disassembly.specs.declared.symbols.Symbol.{Symbol}
 use Rattle.m11_base_files.specs.Opens.{AreFiles, Files, Holds, Lacks}
 use Rattle.m11_link_load_map.specs.NameFiles.{AddsFile, AddsFiles, GiveAll, HasFile, HoldsObject, LacksNames, NoneNamed, ObjectsLack, is_object}
-use Rattle.m11_base_disassembly.specs.Maps.{symbols_of}
+use Rattle.m11_base_disassembly.specs.Maps.{NamesSoFar, nothing, with_text}
 use Rattle.m11_base_disassembly.specs.declared.map_fault.MapFault.{MapFault}
 use Rattle.m11_link_load_map.specs.declared.name_files.NoNames.{NoNames}
 use Rattle.m11_link_load_map.specs.declared.name_files.NoNames.TheVariants.{NotOpened, InFile}
@@ -30,7 +29,7 @@ module _ {I : Type 0} (text : I → Option Text) where
   are_more files (path ∷ paths) others (input ∷ inputs) more h k = (h.0, are_more files paths others inputs more h.1 k)
 
   -- if one file was added, and then others were added or gave no names, the same holds of all of them together
-  pub more_added : (bottom : ℕ) (files : Option Files) (path : List ℕ) (paths : List (List ℕ)) (old middle new : List Symbol)
+  pub more_added : (bottom : ℕ) (files : Option Files) (path : List ℕ) (paths : List (List ℕ)) (old middle new : NamesSoFar)
       (held between held' : List (List ℕ)) (opened open' opened' : List I) (done : Unit {0}) (result : Result (Unit {0}) NoNames)
       → AddsFile text bottom files path old held opened middle between open' (Ok done)
       → AddsFiles text bottom files paths middle between open' new held' opened' result
@@ -38,19 +37,17 @@ module _ {I : Type 0} (text : I → Option Text) where
   more_added bottom files path paths old middle new held between held' opened open' opened' done (Ok all) h s = (
     h.0 ++ s.0,
     h.1 ++ s.1,
-    h.2 ++ s.2,
-    (h.0, h.1, s.0, s.1, h.3, s.3, refl, refl),
-    are_more files h.1 s.1 h.2 s.2 h.4 s.4,
-    longer old middle new h.0 s.0 h.5 s.5,
-    longer held between held' h.1 s.1 h.6 s.6,
-    longer opened open' opened' h.2 s.2 h.7 s.7,
+    (middle, h.0, s.0, h.2, s.2, refl),
+    are_more files h.0 s.0 h.1 s.1 h.3 s.3,
+    longer held between held' h.0 s.0 h.4 s.4,
+    longer opened open' opened' h.1 s.1 h.5 s.5,
   )
   more_added bottom files path paths old middle new held between held' opened open' opened' done (Err none) h s =
-      inr ((h.0, h.1, h.3), s)
+      inr (middle, h.0, h.2, s)
 
   -- the same holds if the file is at the first of these paths, and the others are at the rest
   pub first_added : (bottom : ℕ) (files middle_files : Option Files) (paths : List (Bor (List ℕ))) (path other : Bor (List ℕ))
-      (old middle new : List Symbol) (held between held' : List (List ℕ)) (opened open' opened' : List I) (done : Unit {0})
+      (old middle new : NamesSoFar) (held between held' : List (List ℕ)) (opened open' opened' : List I) (done : Unit {0})
       (result : Result (Unit {0}) NoNames) → 1 ≤ length paths → get_or paths 0 other ≡ path
       → AddsFile text bottom files path.now old held opened middle between open' (Ok done) → middle_files ≡ files
       → AddsFiles text bottom middle_files (texts (take (length paths - 1) (drop 1 paths))) middle between open' new held' opened' result
@@ -65,67 +62,61 @@ module _ {I : Type 0} (text : I → Option Text) where
       (subst R (sym first) h) (subst P same (subst Q (take_all (length (item ∷ rest) - 1) rest (omega arith)) s))
 
   -- without paths, nothing is added
-  pub none_added : (bottom : ℕ) (files : Option Files) (paths : List (Bor (List ℕ))) (old : List Symbol) (held : List (List ℕ))
+  pub none_added : (bottom : ℕ) (files : Option Files) (paths : List (Bor (List ℕ))) (old : NamesSoFar) (held : List (List ℕ))
       (opened : List I) → length paths < 1 → AddsFiles text bottom files (texts paths) old held opened old held opened (Ok tt)
-  none_added bottom files [] old held opened few =
-      ([], [], [], (refl, refl), tt, sym (append-nil old), sym (append-nil held), sym (append-nil opened))
+  none_added bottom files [] old held opened few = ([], [], (refl, refl), tt, sym (append-nil held), sym (append-nil opened))
   none_added bottom files (path ∷ paths) old held opened few = absurd (omega (arith, few))
 
   -- if a file is an object, what opening it again adds is what the file adds
-  pub object_added : (bottom : ℕ) (files middle_files : Option Files) (path bytes : List ℕ) (old new : List Symbol)
+  pub object_added : (bottom : ℕ) (files middle_files : Option Files) (path bytes : List ℕ) (old new : NamesSoFar)
       (held held' : List (List ℕ)) (opened opened' : List I) (result : Result (Unit {0}) NoNames) → HasFile files path bytes
       → is_object bytes ≡ true → middle_files ≡ files
       → HoldsObject text middle_files path old held opened new held' opened' result
       → AddsFile text bottom files path old held opened new held' opened' result
   object_added bottom files middle_files path bytes old new held held' opened opened' (Ok done) has is same h =
       let P : Option Files → Type 0 = λ f. Holds f path (text h.2.0) in (
-        [],
         path ∷ [],
         h.2.0 ∷ [],
         (
           bytes,
           has,
-          ap (λ (b : Bool). cond b (Ok []) (symbols_of bottom bytes)) is,
+          ap (λ (b : Bool). cond b (Ok old) (with_text bottom old bytes)) is ∙ ap Ok (sym h.0),
           sym (ap (λ (b : Bool). cond b (path ∷ []) []) is),
         ),
         (subst P same h.2.1, tt),
-        h.0 ∙ sym (append-nil old),
         h.1,
         h.2.2,
       )
   object_added bottom files middle_files path bytes old new held held' opened opened' (Err (NotOpened named)) has is same h =
       (h.0, subst (λ f. Lacks f path) same h.1)
   object_added bottom files middle_files path bytes old new held held' opened opened' (Err (InFile named fault)) has is same h =
-      let P : MapFault → Type 0 = λ f. LacksNames bottom files path f in (h.0, subst P (sym h.1) tt)
+      let P : MapFault → Type 0 = λ f. LacksNames bottom files path old f in (h.0, subst P (sym h.1) tt)
 
-  -- if a file isn't an object, and its names were added, the file was added
-  pub text_added : (bottom : ℕ) (files : Option Files) (path bytes : List ℕ) (old new more : List Symbol)
+  -- if a file isn't an object, and what its text gives was added, the file was added
+  pub text_added : (bottom : ℕ) (files : Option Files) (path bytes : List ℕ) (old new : NamesSoFar)
       (held : List (List ℕ)) (opened : List I) → HasFile files path bytes → is_object bytes ≡ false
-      → symbols_of bottom bytes ≡ Ok more → new ≡ old ++ more
-      → AddsFile text bottom files path old held opened new held opened (Ok tt)
-  text_added bottom files path bytes old new more held opened has is found added = (
-    more,
+      → with_text bottom old bytes ≡ Ok new → AddsFile text bottom files path old held opened new held opened (Ok tt)
+  text_added bottom files path bytes old new held opened has is added = (
     [],
     [],
     (
       bytes,
       has,
-      ap (λ (b : Bool). cond b (Ok []) (symbols_of bottom bytes)) is ∙ found,
+      ap (λ (b : Bool). cond b (Ok old) (with_text bottom old bytes)) is ∙ added,
       sym (ap (λ (b : Bool). cond b (path ∷ []) []) is),
     ),
     tt,
-    added,
     sym (append-nil held),
     sym (append-nil opened),
   )
 
 -- if all files give names, but a link of the objects among them is refused, there are no names
 pub none_named : {A I : Type 0} (text : I → Option Text) (faults : I → ℕ) (bottom : ℕ) (files : Option Files) (paths : List (List ℕ))
-    (more : List Symbol) (objects own : List (List ℕ)) (inputs opened : List I) (result : Result A NoNames)
-    → GiveAll bottom files paths more own → AreFiles text files own opened → objects ≡ own → inputs ≡ opened
+    (found : NamesSoFar) (objects own : List (List ℕ)) (inputs opened : List I) (result : Result A NoNames)
+    → GiveAll bottom files paths nothing found own → AreFiles text files own opened → objects ≡ own → inputs ≡ opened
     → IfErr result (ObjectsLack text faults bottom objects inputs) → IfErr result (NoneNamed text faults bottom files paths)
-none_named text faults bottom files paths more objects own inputs opened (Ok x) given are o i h = tt
-none_named {A} {I} text faults bottom files paths more objects own inputs opened (Err none) given are o i h =
+none_named text faults bottom files paths found objects own inputs opened (Ok x) given are o i h = tt
+none_named {A} {I} text faults bottom files paths found objects own inputs opened (Err none) given are o i h =
     let P : List (List ℕ) → Type 0 = λ these. ObjectsLack text faults bottom these opened none in
     let Q : List I → Type 0 = λ these. ObjectsLack text faults bottom objects these none in
-    inr (more, own, opened, given, are, subst P o (subst Q i h))
+    inr (found, own, opened, given, are, subst P o (subst Q i h))

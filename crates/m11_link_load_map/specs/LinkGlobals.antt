@@ -2,6 +2,7 @@
 -- project's own.)
 use Rattle.std.specs.Prelude.{◌≡◌, ℕ, List, ◌++◌, map, Result, Ok, Err}
 use Rattle.m11_base.specs.Feed.{NoneFailed}
+use Rattle.m11_base_disassembly.specs.declared.symbols.Scope.TheVariants.{Unknown}
 use Rattle.m11_base_disassembly.specs.declared.symbols.Symbol.{Symbol}
 use Rattle.m11_base_writes.specs.Passes.{Pass}
 use Rattle.m11_link.specs.Objects.{Item, GiveItems, outcome}
@@ -12,7 +13,7 @@ use Rattle.m11_link_load_map.specs.Stopping.{IsRefused}
 use Rattle.m11_link_load_map.specs.declared.fault.ObjectsFault.{ObjectsFault}
 
 abbrev pub symbol_of : PlannedGlobal → Symbol
-symbol_of global = record { name = global.name; value = global.value }
+symbol_of global = record { name = global.name; value = global.value; scope = Unknown }
 
 -- a link accepts the parts of the objects that the feeds yielded, with relocatable sections beginning at `bottom`, and these are its
 -- globals

@@ -2,7 +2,7 @@
 use Rattle.std.specs.Prelude.{◌≡◌, ◌⊎◌, ℕ, Bool, false, nat_lt, if◌then◌else◌, List, [], ◌∷◌, ◌++◌, Option, Some, None, Result, Ok, Err, ⊤, slice_index_or}
 use Rattle.m11_base.specs.Devices.{Bytes, Rises}
 use Rattle.m11_base.specs.Feed.{HasBytes, Text}
-use Rattle.m11_base_disassembly.specs.Maps.{IsUnread, symbols_of}
+use Rattle.m11_base_disassembly.specs.Maps.{IsUnread, NamesSoFar, nothing, with_text}
 use Rattle.m11_base_disassembly.specs.declared.map_fault.MapFault.{MapFault}
 use Rattle.m11_base_disassembly.specs.declared.map_fault.MapFault.TheVariants.{Read, BadMap, NoMemory}
 use Rattle.m11_base_disassembly.specs.declared.symbols.Symbol.{Symbol}
@@ -27,47 +27,47 @@ abbrev pub is_object : Bytes → Bool
 is_object [] = false
 is_object (byte ∷ bytes) = nat_lt byte 2
 
--- the names in a file with these bytes, or the file's fault; none in an object, since the names in all objects are found together,
--- after all others
-abbrev pub names_in : ℕ → Bytes → Result (List Symbol) MapFault
-names_in bottom bytes = if is_object bytes then Ok [] else symbols_of bottom bytes
+-- what files have given with a further file with these bytes, or the file's fault; nothing more with an object, since the names in all objects
+-- are found together, after all others
+abbrev pub with_file : ℕ → NamesSoFar → Bytes → Result NamesSoFar MapFault
+with_file bottom old bytes = if is_object bytes then Ok old else with_text bottom old bytes
 
 -- the path of a file, if it is an object
 abbrev pub object_in : Bytes → Bytes → List Bytes
 object_in path bytes = if is_object bytes then path ∷ [] else []
 
--- these are the names in the file at this path; `objects` holds the path if the file is an object, and otherwise nothing
-abbrev pub Gives : ℕ → Option Files → Bytes → List Symbol → List Bytes → Type 0
-Gives bottom files path symbols objects = (bytes : Bytes) × HasFile files path bytes × (names_in bottom bytes ≡ Ok symbols)
+-- with the file at this path files have given this; `objects` holds the path if the file is an object, and otherwise nothing
+abbrev pub Gives : ℕ → Option Files → Bytes → NamesSoFar → NamesSoFar → List Bytes → Type 0
+Gives bottom files path old new objects = (bytes : Bytes) × HasFile files path bytes × (with_file bottom old bytes ≡ Ok new)
     × (objects ≡ object_in path bytes)
 
--- why the file at this path gives no names: it couldn't be read, or is too long; or its bytes have none of the forms; or memory was refused
-abbrev pub LacksNames : ℕ → Option Files → Bytes → MapFault → Type 0
-LacksNames bottom files path NoMemory = ⊤
-LacksNames bottom files path BadMap = (bytes : Bytes) × HasFile files path bytes × (names_in bottom bytes ≡ Err BadMap)
-LacksNames bottom files path fault =
-    (text : Option Text) × Holds files path text × (faults : ℕ) × (faults' : ℕ) × IsUnread text faults faults' fault
+-- why the file at this path gives no names: memory was refused; or it couldn't be read, or is too long; or its bytes have none of the forms, or
+-- it is a listing of no module of the load map before it
+abbrev pub LacksNames : ℕ → Option Files → Bytes → NamesSoFar → MapFault → Type 0
+LacksNames bottom files path old NoMemory = ⊤
+LacksNames bottom files path old fault =
+    ((text : Option Text) × Holds files path text × (faults : ℕ) × (faults' : ℕ) × IsUnread text faults faults' fault)
+    ⊎ ((bytes : Bytes) × HasFile files path bytes × (with_file bottom old bytes ≡ Err fault))
 
 -- why the file at this path gives no names, with the path: it can't be opened, or has this fault
-abbrev pub GivesNone : ℕ → Option Files → Bytes → NoNames → Type 0
-GivesNone bottom files path (NotOpened named) = (named.now ≡ path) × Lacks files path
-GivesNone bottom files path (InFile named fault) = (named.now ≡ path) × LacksNames bottom files path fault
+abbrev pub GivesNone : ℕ → Option Files → Bytes → NamesSoFar → NoNames → Type 0
+GivesNone bottom files path old (NotOpened named) = (named.now ≡ path) × Lacks files path
+GivesNone bottom files path old (InFile named fault) = (named.now ≡ path) × LacksNames bottom files path old fault
 
 -- ---- all files
 
--- the names in the files at these paths, in order, and the paths of the objects among them
-abbrev pub GiveAll : ℕ → Option Files → List Bytes → List Symbol → List Bytes → Type 0
-GiveAll bottom files [] symbols objects = (symbols ≡ []) × (objects ≡ [])
-GiveAll bottom files (path ∷ paths) symbols objects = (first : List Symbol) × (own : List Bytes)
-    × (more : List Symbol) × (others : List Bytes) × Gives bottom files path first own
-    × GiveAll bottom files paths more others × (symbols ≡ first ++ more) × (objects ≡ own ++ others)
+-- with the files at these paths, in order, files have given this, and these are the paths of the objects among them
+abbrev pub GiveAll : ℕ → Option Files → List Bytes → NamesSoFar → NamesSoFar → List Bytes → Type 0
+GiveAll bottom files [] old new objects = (new ≡ old) × (objects ≡ [])
+GiveAll bottom files (path ∷ paths) old new objects = (middle : NamesSoFar) × (own : List Bytes) × (others : List Bytes)
+    × Gives bottom files path old middle own × GiveAll bottom files paths middle new others × (objects ≡ own ++ others)
 
 -- why the files at these paths don't all give names: one of them gives none, for this reason, and each one before it gives names
-abbrev pub LackNames : ℕ → Option Files → List Bytes → NoNames → Type 0
-LackNames bottom files [] none = ⊥
-LackNames bottom files (path ∷ paths) none = GivesNone bottom files path none
-    ⊎ (((symbols : List Symbol) × (objects : List Bytes) × Gives bottom files path symbols objects)
-    × LackNames bottom files paths none)
+abbrev pub LackNames : ℕ → Option Files → List Bytes → NamesSoFar → NoNames → Type 0
+LackNames bottom files [] old none = ⊥
+LackNames bottom files (path ∷ paths) old none = GivesNone bottom files path old none
+    ⊎ ((middle : NamesSoFar) × (objects : List Bytes) × Gives bottom files path old middle objects
+    × LackNames bottom files paths middle none)
 
 -- ---- the objects among the files
 
@@ -105,15 +105,15 @@ module _ {I : Type 0} (text : I → Option Text) (faults : I → ℕ) where
 
   -- the names in the files at these paths, and after them those of the objects among these files
   abbrev pub Names : ℕ → Option Files → List Bytes → List Symbol → Type 0
-  Names bottom files paths symbols = (first : List Symbol) × (objects : List Bytes) × (inputs : List I)
-      × GiveAll bottom files paths first objects × AreFiles text files objects inputs
-      × WithObjects bottom objects inputs first symbols
+  Names bottom files paths symbols = (found : NamesSoFar) × (objects : List Bytes) × (inputs : List I)
+      × GiveAll bottom files paths nothing found objects × AreFiles text files objects inputs
+      × WithObjects bottom objects inputs found.symbols symbols
 
   -- why there are no names: one of the files gives none, for a reason of its own; or each file was read, but a link of the objects
   -- among them is refused
   abbrev pub NoneNamed : ℕ → Option Files → List Bytes → NoNames → Type 0
-  NoneNamed bottom files paths none = LackNames bottom files paths none
-      ⊎ ((symbols : List Symbol) × (objects : List Bytes) × (inputs : List I) × GiveAll bottom files paths symbols objects
+  NoneNamed bottom files paths none = LackNames bottom files paths nothing none
+      ⊎ ((found : NamesSoFar) × (objects : List Bytes) × (inputs : List I) × GiveAll bottom files paths nothing found objects
       × AreFiles text files objects inputs × ObjectsLack bottom objects inputs none)
 
   -- ---- adding names to others
@@ -123,26 +123,24 @@ module _ {I : Type 0} (text : I → Option Text) (faults : I → ℕ) where
   AddsObjects bottom objects inputs old new (Err none) = ObjectsLack bottom objects inputs none
 
 module _ {I : Type 0} (text : I → Option Text) where
-  abbrev pub HoldsObject : Option Files → Bytes → List Symbol → List Bytes → List I → List Symbol → List Bytes → List I
+  abbrev pub HoldsObject : Option Files → Bytes → NamesSoFar → List Bytes → List I → NamesSoFar → List Bytes → List I
       → Result (Unit {0}) NoNames → Type 0
   HoldsObject files path old held opened new held' opened' (Ok done) = (new ≡ old) × (held' ≡ held ++ path ∷ [])
       × ((input : I) × Holds files path (text input) × (opened' ≡ opened ++ input ∷ []))
   HoldsObject files path old held opened new held' opened' (Err (NotOpened named)) = (named.now ≡ path) × Lacks files path
   HoldsObject files path old held opened new held' opened' (Err (InFile named fault)) = (named.now ≡ path) × (fault ≡ NoMemory)
 
-  abbrev pub AddsFile : ℕ → Option Files → Bytes → List Symbol → List Bytes → List I → List Symbol → List Bytes → List I
+  abbrev pub AddsFile : ℕ → Option Files → Bytes → NamesSoFar → List Bytes → List I → NamesSoFar → List Bytes → List I
       → Result (Unit {0}) NoNames → Type 0
-  AddsFile bottom files path old held opened new held' opened' (Ok done) = (more : List Symbol) × (own : List Bytes)
-      × (inputs : List I) × Gives bottom files path more own × AreFiles text files own inputs
-      × (new ≡ old ++ more) × (held' ≡ held ++ own) × (opened' ≡ opened ++ inputs)
-  AddsFile bottom files path old held opened new held' opened' (Err none) = GivesNone bottom files path none
+  AddsFile bottom files path old held opened new held' opened' (Ok done) = (own : List Bytes) × (inputs : List I)
+      × Gives bottom files path old new own × AreFiles text files own inputs × (held' ≡ held ++ own) × (opened' ≡ opened ++ inputs)
+  AddsFile bottom files path old held opened new held' opened' (Err none) = GivesNone bottom files path old none
 
-  abbrev pub AddsFiles : ℕ → Option Files → List Bytes → List Symbol → List Bytes → List I → List Symbol → List Bytes → List I
+  abbrev pub AddsFiles : ℕ → Option Files → List Bytes → NamesSoFar → List Bytes → List I → NamesSoFar → List Bytes → List I
       → Result (Unit {0}) NoNames → Type 0
-  AddsFiles bottom files paths old held opened new held' opened' (Ok done) = (more : List Symbol) × (own : List Bytes)
-      × (inputs : List I) × GiveAll bottom files paths more own × AreFiles text files own inputs
-      × (new ≡ old ++ more) × (held' ≡ held ++ own) × (opened' ≡ opened ++ inputs)
-  AddsFiles bottom files paths old held opened new held' opened' (Err none) = LackNames bottom files paths none
+  AddsFiles bottom files paths old held opened new held' opened' (Ok done) = (own : List Bytes) × (inputs : List I)
+      × GiveAll bottom files paths old new own × AreFiles text files own inputs × (held' ≡ held ++ own) × (opened' ≡ opened ++ inputs)
+  AddsFiles bottom files paths old held opened new held' opened' (Err none) = LackNames bottom files paths old none
 
 -- a count of refusals rises if and only if a file couldn't be opened
 abbrev pub Counts : {A : Type 0} → ℕ → ℕ → Result A NoNames → Type 0

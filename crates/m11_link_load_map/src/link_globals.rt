@@ -9,7 +9,7 @@ use crate::fault::ObjectsFault;
 use crate::reading::read_all;
 use crate::text::globals_of;
 use m11_base::{Feed, Seed};
-use m11_base_disassembly::Symbol;
+use m11_base_disassembly::{Scope, Symbol};
 use m11_link_layout::{LinkFault, Plan, PlannedGlobal};
 use std::alloc::{AllocError, Global};
 
@@ -61,6 +61,7 @@ fn add_each(symbols: &mut Vec<Symbol>, globals: &[PlannedGlobal]) -> Result<(), 
         symbols.push(Symbol {
             name: global.name,
             value: global.value,
+            scope: Scope::Unknown,
         })?;
         rest = others;
     }

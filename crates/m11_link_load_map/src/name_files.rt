@@ -2,12 +2,12 @@
 
 ghost use Rattle.std.specs.Prelude.{◌≡◌, ◌++◌, ℕ, IfErr, IfOk, map};
 ghost use Rattle.m11_base.specs.Feed.{HasBytes};
-ghost use Rattle.m11_base_disassembly.specs.Maps.{IsUnread};
+ghost use Rattle.m11_base_disassembly.specs.Maps.{IsUnread, so_far};
 ghost use Rattle.m11_link_load_map.specs.NameFiles as spec;
 
 use crate::objects::add_object_names;
 use m11_base::Feed;
-use m11_base_disassembly::{MapFault, Symbol, add_names, read_text};
+use m11_base_disassembly::{MapFault, NamesSoFar, Symbol, read_text};
 use m11_base_files::{OpenRefusal, Opens};
 use std::alloc::Global;
 
@@ -24,17 +24,18 @@ pub enum NoNames<'a> {
 // What has been found so far in files of names.
 #[derive(Drop)]
 struct Found<'a, I> {
-    // The names in maps, load maps and listings.
-    symbols: Vec<Symbol>,
+    // What maps, load maps and listings have given.
+    names: NamesSoFar,
     // The paths of objects.
     objects: Vec<&'a str>,
     // The objects, which are opened again to be read together.
     inputs: Vec<I>,
 }
 
-/// The names of addresses in the files at these paths: the globals of maps and load maps and the names in listings, in order, and after
-/// them the globals of a link of the objects among these files. Relocatable sections begin at `bottom`. Each file is opened and read
-/// before the next; an object is then opened again, as for two passes, and must be a file that can be read more than once. Error: why a
+/// The names of addresses in the files at these paths: the globals of maps, the globals and the sections of load maps, and the names in
+/// listings, in order, and after them the globals of a link of the objects among these files. A listing lies where the contributions of its
+/// module do in the last load map before it; without a load map before it, and in a link of the objects, relocatable sections begin at
+/// `bottom`. Each file is opened and read before the next; an object is then opened again, as for two passes, and must be a file that can be read more than once. Error: why a
 /// file gives no names, for the first such file; or else why a link of the objects is refused, with the path of the object at fault.
 pub fn read_names<'a, F: Opens>(
     alloc: Global,
@@ -50,7 +51,7 @@ pub fn read_names<'a, F: Opens>(
     ensures counts { spec.Counts (F.refusals files.old) (F.refusals files.new) result }
 {
     let mut found = Found {
-        symbols: Vec::new(alloc),
+        names: NamesSoFar::new(alloc),
         objects: Vec::new(alloc),
         inputs: Vec::new(alloc),
     };
@@ -68,15 +69,16 @@ fn with_objects<'a, F: Opens>(
     found: Found<'a, F::Input>,
 ) -> Result<Vec<Symbol>, NoNames<'a>>
     ensures names { IfOk result (λ symbols. spec.WithObjects F.Input.text F.Input.faults bottom (map (λ path. path.now) found.entry.objects.items)
-        found.entry.inputs.items found.entry.symbols.items symbols.items) }
+        found.entry.inputs.items found.entry.names.symbols.items symbols.items) }
     ensures none { IfErr result (spec.ObjectsLack F.Input.text F.Input.faults bottom (map (λ path. path.now) found.entry.objects.items)
         found.entry.inputs.items) }
 {
     let Found {
-        symbols,
+        names,
         objects,
         inputs,
     } = found;
+    let NamesSoFar { symbols, .. } = names;
     let mut symbols = symbols;
     let mut inputs = inputs;
     let seed = files.seed();
@@ -113,8 +115,8 @@ fn add_files<'a, F: Opens>(
     paths: &[&'a str],
 ) -> Result<(), NoNames<'a>>
     ensures adds { spec.AddsFiles F.Input.text bottom (F.files files.old) (map (λ path. path.now) paths.now)
-        found.old.symbols.items (map (λ path. path.now) found.old.objects.items) found.old.inputs.items
-        found.new.symbols.items (map (λ path. path.now) found.new.objects.items) found.new.inputs.items result }
+        (so_far found.old.names) (map (λ path. path.now) found.old.objects.items) found.old.inputs.items
+        (so_far found.new.names) (map (λ path. path.now) found.new.objects.items) found.new.inputs.items result }
     ensures files { F.files files.new ≡ F.files files.old }
     ensures counts { spec.Counts (F.refusals files.old) (F.refusals files.new) result }
 {
@@ -136,8 +138,8 @@ fn add_file<'a, F: Opens>(
     path: &'a str,
 ) -> Result<(), NoNames<'a>>
     ensures adds { spec.AddsFile F.Input.text bottom (F.files files.old) path.entry.now
-        found.old.symbols.items (map (λ path. path.now) found.old.objects.items) found.old.inputs.items
-        found.new.symbols.items (map (λ path. path.now) found.new.objects.items) found.new.inputs.items result }
+        (so_far found.old.names) (map (λ path. path.now) found.old.objects.items) found.old.inputs.items
+        (so_far found.new.names) (map (λ path. path.now) found.new.objects.items) found.new.inputs.items result }
     ensures files { F.files files.new ≡ F.files files.old }
     ensures counts { spec.Counts (F.refusals files.old) (F.refusals files.new) result }
 {
@@ -147,7 +149,7 @@ fn add_file<'a, F: Opens>(
                 if is_object(text.as_slice()) {
                     hold_object(files, found, path)
                 } else {
-                    match add_names(&mut found.symbols, bottom, text.as_slice()) {
+                    match found.names.add_text(alloc, bottom, text.as_slice()) {
                         Ok(()) => Ok(()),
                         Err(fault) => Err(NoNames::InFile(path, fault)),
                     }
@@ -168,8 +170,8 @@ fn hold_object<'a, F: Opens>(
     path: &'a str,
 ) -> Result<(), NoNames<'a>>
     ensures holds { spec.HoldsObject F.Input.text (F.files files.old) path.entry.now
-        found.old.symbols.items (map (λ path. path.now) found.old.objects.items) found.old.inputs.items
-        found.new.symbols.items (map (λ path. path.now) found.new.objects.items) found.new.inputs.items result }
+        (so_far found.old.names) (map (λ path. path.now) found.old.objects.items) found.old.inputs.items
+        (so_far found.new.names) (map (λ path. path.now) found.new.objects.items) found.new.inputs.items result }
     ensures files { F.files files.new ≡ F.files files.old }
     ensures counts { spec.Counts (F.refusals files.old) (F.refusals files.new) result }
 {

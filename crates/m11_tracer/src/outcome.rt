@@ -43,6 +43,7 @@ fn map_status(fault: MapFault) -> u8
         MapFault::Read => 3,
         MapFault::BadMap => 4,
         MapFault::TooMuch => 6,
+        MapFault::NoModule => 4,
         MapFault::NoMemory => 5,
     }
 }
