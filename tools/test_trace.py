@@ -106,7 +106,22 @@ MAPS = {
     "LONGER.MAP": "GLOBALS\nUNDEFINED\n" + "\n" * 16777199,
     "OTHER.MAP": "GLOBALS\nFIRST  001000\nINNER  001006\nUNDEFINED\n",
     "LOAD.MAP": "LIMIT 001000 001034\nSECTIONS\n  001000 000034        MAIN\nGLOBALS\n  000015 CR     MAIN\n  001000 MAIN   MAIN\n  001004 LOOP   MAIN\n"
-                "  001004 AGAIN  MAIN\n  001010 WAIT\n",
+                "  001004 AGAIN  MAIN\n  001010 WAIT   MAIN\n",
+    "BLANK.MAP": "LIMIT 001000 001034\nSECTIONS\n  001000 000034\nGLOBALS\n  001000 MAIN\n  001004 LOOP\n  001010 WAIT\n",
+    # Two modules have a section CODE, and each has the absolute and the blank one; the last label of the first module is where its part ends.
+    "TWO.MAP": "LIMIT 001000 001034\nSECTIONS\n  000000 000000 . ABS. FIRST\n  001000 000000        FIRST\n  001000 000010 CODE   FIRST\n"
+               "  000000 000000 . ABS. SECOND\n  001010 000000        SECOND\n  001010 000024 CODE   SECOND\n"
+               "GLOBALS\n  001000 MAIN   FIRST\n  001006 SIX\n  001010 LAST   FIRST\n",
+    "FIRST.LST": "\nSYMBOL TABLE\nEND      000010 R    2\nLAST     000010 RG   2\nLOOP     000004 R    2\nMAIN     000000 RG   2\nSIX    = 001006\n\n"
+                 ". ABS. 000000   0 RW,I,GBL,ABS,OVR\n       000000   1 RW,I,LCL,REL,CON\nCODE   000010   2 RO,I,LCL,REL,CON\n\nERRORS DETECTED: 0\n",
+    "SECOND.LST": "\nSYMBOL TABLE\nNONE     ******  G\nWAIT     000000 R    2\n\n"
+                  ". ABS. 000000   0 RW,I,GBL,ABS,OVR\n       000000   1 RW,I,LCL,REL,CON\nCODE   000024   2 RO,I,LCL,REL,CON\n\nERRORS DETECTED: 0\n",
+    # Two modules with sections of the same sizes, before others.
+    "TWINS.MAP": "LIMIT 001000 001034\nSECTIONS\n  000000 000000 . ABS. ONE\n  001000 000004 CODE   ONE\n  000000 000000 . ABS. OTHER\n"
+                 "  001004 000004 CODE   OTHER\n  000000 000000 . ABS. REST\n  001010 000024 CODE   REST\nGLOBALS\n  001010 WAIT   REST\n",
+    "MAIN.LST": "\nSYMBOL TABLE\nMAIN     000000 R    1\n\n. ABS. 000000   0 RW,I,GBL,ABS,OVR\nCODE   000004   1 RO,I,LCL,REL,CON\n\n",
+    "LOOP.LST": "\nSYMBOL TABLE\nLOOP     000000 R    1\n\n. ABS. 000000   0 RW,I,GBL,ABS,OVR\nCODE   000004   1 RO,I,LCL,REL,CON\n\n",
+    "BAD.MAP": "LIMIT 001000 001034\nSECTIONS\n  001000 00034         MAIN\nGLOBALS\n  001000 MAIN   MAIN\n",
     "NOLOAD.MAP": "LIMIT 001000 001000\nSECTIONS\nGLOBALS\n",
     "CUT.MAP": "LIMIT 001000 001034\nSECTIONS\n  001000 000034        MAIN\n",
     "LINKED.MAP": "LIMIT 001000 001034\nGLOBALS\nMAIN   001000 MAIN\nUNDEFINED\n",
@@ -196,6 +211,21 @@ CHECKS = (
     ("a listing of a module that is linked elsewhere", "-y HI.LST -b 774 -f 16 HI.TAP", TAPE, 0, "H\n", LINES[15].replace("\t001024\t", "\t001024 WAIT+20\t") + END),
     ("a listing of several sections", "-y PARTS.LST --bottom 770 HI.TAP", TAPE, 0, "H\n", "".join(NAMED) + END),
     ("a name of an absolute section", "-y PARTS.LST -n 1 HI.TAP", TAPE, 1, "", LINES[0].replace("\t001000\t", "\t001000 TABLE+700\t") + "LIMIT AFTER 1 STEPS\n" + registers("000000", "001026", "001004", "000000")),
+    ("a load map without names of modules", "-y BLANK.MAP HI.TAP", TAPE, 0, "H\n", "".join(NAMED) + END),
+    ("a load map with a bad section", "-y BAD.MAP HI.TAP", TAPE, 4, "", "?M11 MAP 2 BadMap OF BAD.MAP\n"),
+    ("a load map and the listings of its modules", "-y TWO.MAP -y FIRST.LST -y SECOND.LST HI.TAP", TAPE, 0, "H\n", "".join(NAMED) + END),
+    ("the listings in another order", "-y TWO.MAP -y SECOND.LST -y FIRST.LST HI.TAP", TAPE, 0, "H\n", "".join(NAMED) + END),
+    ("a load map and one of the listings", "-y TWO.MAP -y FIRST.LST HI.TAP", TAPE, 0, "H\n",
+     re.sub(r" WAIT(\+([0-7]+))?", lambda found: f" CODE+{int(found[2] or '0', 8) + 8:o}", "".join(NAMED)) + END),
+    ("a load map and the other listing", "-y TWO.MAP -y SECOND.LST HI.TAP", TAPE, 0, "H\n",
+     re.sub(r" LOOP(\+([0-7]+))?", lambda found: f" MAIN+{int(found[2] or '0', 8) + 4:o}", "".join(NAMED)) + END),
+    ("the listings of two modules with the same sections", "-y TWINS.MAP -y MAIN.LST -y LOOP.LST HI.TAP", TAPE, 0, "H\n", "".join(NAMED) + END),
+    ("a listing of no module of the load map", "-y TWO.MAP -y FIRST.LST -y HI.LST HI.TAP", TAPE, 4, "", "?M11 MAP 4 NoModule OF HI.LST\n"),
+    ("a listing whose module has another one already", "-y TWO.MAP -y FIRST.LST -y FIRST.LST HI.TAP", TAPE, 4, "", "?M11 MAP 4 NoModule OF FIRST.LST\n"),
+    ("a listing without the section of a name, after its load map", "-y LOAD.MAP -y FIFTH.LST HI.TAP", TAPE, 4, "", "?M11 MAP 4 NoModule OF FIFTH.LST\n"),
+    ("two listings without a load map", "-y HI.LST -y MAIN.LST HI.TAP", TAPE, 4, "", "?M11 MAP 4 NoModule OF MAIN.LST\n"),
+    ("a listing before its load map, which is placed without it", "-y SECOND.LST -y TWO.MAP -n 1 HI.TAP", TAPE, 1, "", LINES[0].replace("\t001000\t", "\t001000 MAIN\t") + "LIMIT AFTER 1 STEPS\n" + registers("000000", "001026", "001004", "000000")),
+    ("a second load map", "-y TWINS.MAP -y TWO.MAP -y FIRST.LST -y SECOND.LST HI.TAP", TAPE, 0, "H\n", "".join(NAMED) + END),
     ("a listing without names", "-y EMPTY.LST -f 16 HI.TAP", TAPE, 0, "H\n", LINES[15] + END),
     ("a listing that ends among its names", "-y OPEN.LST HI.TAP", TAPE, 4, "", "?M11 MAP 2 BadMap OF OPEN.LST\n"),
     ("a listing without the section of a name", "-y FIFTH.LST HI.TAP", TAPE, 4, "", "?M11 MAP 2 BadMap OF FIFTH.LST\n"),
