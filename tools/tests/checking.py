@@ -123,11 +123,20 @@ def ci(repository, what, status, last):
     return out + said
 
 
+def put_fuzzer(repository, line, status):
+    """Puts a stand-in into the place of the fuzzer, which prints a line and has a status."""
+    path = repository.at("bench/fuzz")
+    os.makedirs(os.path.dirname(path), exist_ok=True)
+    put(path, f"#!/bin/sh\necho '{line}'\nexit {status}\n")
+    os.chmod(path, 0o755)
+
+
 def check_ci(repository):
     """.ci/run tests dist/, runs the gate, compares its programs with dist/, and tests those of the other compiler. Its last line is the gate's."""
     prepare(repository)
     put(repository.at("crates.txt"), "".join(line + "\n" for line in LISTS.splitlines() if line[0] != "#"))
     repository.expect_proof("the programs again", 1, ["--dist"])
+    put_fuzzer(repository, "1 cases, 0 findings", 0)
     passed = "5 passed, 0 failed"
     out = ci(repository, "all is well", 0, passed)
     repository.expect("its parts", out.splitlines()[0::len(out.splitlines()) - 1], [f"{PARTS + 1} passed, 0 failed", passed])
@@ -145,6 +154,9 @@ def check_ci(repository):
     put(repository.at("tools/test_growths.py"), STAND_IN.format('print("growths: skipped: there is no cc"); print("0 passed, 0 failed, 8 skipped")'))
     ci(repository, "a test that is skipped", 1, "ci: tests were skipped")
     put(repository.at("tools/test_growths.py"), STAND_IN.format(PASSES))
+    put_fuzzer(repository, "1 cases, 1 findings", 1)
+    ci(repository, "what the fuzzer finds", 1, "1 cases, 1 findings")
+    put_fuzzer(repository, "1 cases, 0 findings", 0)
     repository.tell("fails")
     ci(repository, "a crate that isn't proved", 1, "rt: m11_low NOT PROVED")
     repository.tell_no_more("fails")
