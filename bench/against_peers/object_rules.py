@@ -15,7 +15,7 @@ def no_title(one, two, source):
 
 
 def even_at_the_end(one, two, source):
-    """There .EVEN and .ODD at the end of a section don't count in its size. Nothing is stored in the one or two bytes that are missing."""
+    """There .EVEN and .ODD at the end of a section don't count in its size. Nothing is stored in the bytes that are missing."""
     if not re.search(r"(?i)\.(EVEN|ODD)", source):
         return False
     changed = False
@@ -24,7 +24,7 @@ def even_at_the_end(one, two, source):
         places = {(name, place) for place in range(size, mine)}
         is_stored = any(places & set(part) for part in (one["bytes"], one["values"], two["bytes"], two["values"]))
         is_word_before = any((name, size - 1) in part["values"] and not part["values"][name, size - 1].is_byte for part in (one, two))
-        if mine - size in (1, 2) and not is_stored and not is_word_before:
+        if 1 <= mine - size <= 4 and not is_stored and not is_word_before:
             two["sections"][name], changed = (flags, mine), True
     return changed
 

@@ -132,7 +132,9 @@ class Reader:
             place = (self.section, (self.text_at + index) % 65536)
             self.module.cells[place] = byte
             self.module.values.pop(place, None)
-            self.module.values.pop((self.section, place[1] - 1), None)
+            before = (self.section, place[1] - 1)
+            if before in self.module.values and not self.module.values[before].is_byte:
+                del self.module.values[before]
 
     def relocations(self, data):
         """Reads the commands after a text."""

@@ -156,5 +156,5 @@ class Statements(Expressions):
 
     def plain_body(self):
         """Lines of a body that mean the same each time."""
-        lines = self.some(3)
+        lines = ["\t.EVEN", *self.some(3)]
         return [line for line in lines if "=" not in line or ".=" in line]

@@ -1,0 +1,46 @@
+"""The first step of a program after which m11's machine and SIMH's differ."""
+from against_peers import machines
+
+# Up to where memory is looked at in a search, unless nothing differs there.
+SOME_MEMORY = 0o7776
+# How many step counts are tried in one start of SIMH.
+TRIED = 6
+
+
+def is_same(mine, other):
+    """Whether two states are alike: the registers and memory. How the runs stopped counts apart from that."""
+    return other is not None and other.is_there and mine.registers == other.registers and mine.memory[:len(other.memory)] == other.memory
+
+
+def states(programs, tape, counts, room, top):
+    """The states of both machines after some numbers of steps."""
+    mine = [machines.ours(programs, tape, count, room, top) for count in counts]
+    other = machines.theirs(programs, [(tape, state) for state in mine], room, top)
+    return list(zip(counts, mine, other))
+
+
+def first_difference(programs, tape, last, room):
+    """The step and the states of `first_in`, for as little memory as shows a difference, with all memory."""
+    found = first_in(programs, tape, last, room, SOME_MEMORY) or first_in(programs, tape, last, room, machines.TOP_ADDRESS)
+    if found is None:
+        return None
+    (_, *before), (_, *after) = states(programs, tape, [found - 1, found], room, machines.TOP_ADDRESS)
+    return found, before, after
+
+
+def first_in(programs, tape, last, room, top):
+    """The first step that are alike, and the first ones that differ, given that those after the last step differ."""
+    low, high, found = 0, last, {}
+    while high - low > 1 or high not in found or low not in found:
+        width = high - low
+        counts = sorted({low, high, *(low + width * index // TRIED for index in range(1, TRIED))})
+        for count, mine, other in states(programs, tape, [count for count in counts if count not in found], room, top):
+            found[count] = (mine, other)
+        low = max(count for count in counts if is_same(*found[count])) if any(is_same(*found[count]) for count in counts) else low
+        after = [count for count in counts if count > low and not is_same(*found[count])]
+        if not after:
+            return None
+        high = min(after)
+        if not is_same(*found[low]):
+            return None
+    return high

@@ -1,0 +1,170 @@
+"""The rules by which a step of m11's machine and one of SIMH's 11/40 differ.
+
+Each looks at the first step that differs: at the state before it, which both have, and at both states after it. Where it can, it computes the state
+that SIMH must have, and SIMH is asked again whether it has exactly that one."""
+from dataclasses import replace
+
+PROCESSOR, COMING = "docs/PROCESSOR.md", "docs/COMING.md"
+SP, PC, PSW = 6, 7, 8
+TRACE, HIGH_BITS, CODES = 0o20, 0o170000, 0o17
+STACK_LIMIT = 0o400
+RTI, RTT = 2, 6
+# What SIMH has at 160000 and on, and m11's machine hasn't; the devices that can be taken away are. SIMH shows the list by `show cpu iospace`.
+ONLY_THERE = ((0o160100, 0o160137), (0o172300, 0o172317), (0o172340, 0o172357), (0o177546, 0o177547), (0o177570, 0o177577), (0o177600, 0o177617),
+              (0o177640, 0o177657))
+CONSOLE = (0o177560, 0o177567)
+
+
+class Failed(Exception):
+    """A word isn't in memory."""
+
+
+def word_of(state, address):
+    """A word of memory."""
+    if address & 1 or address // 2 >= len(state.memory):
+        raise Failed(address)
+    return state.memory[address // 2]
+
+
+def trapped(state, vector):
+    """The state after a trap."""
+    registers, memory = list(state.registers), list(state.memory)
+    for pushed in (registers[PSW], registers[PC]):
+        registers[SP] = (registers[SP] - 2) & 0xFFFF
+        if registers[SP] & 1 or registers[SP] // 2 >= len(memory):
+            raise Failed(registers[SP])
+        memory[registers[SP] // 2] = pushed
+    registers[PC], registers[PSW] = memory[vector // 2], memory[vector // 2 + 1] & 0xFF
+    return replace(state, registers=tuple(registers), memory=tuple(memory))
+
+
+def after_the_word(state):
+    """The state with the program counter after the instruction's first word."""
+    registers = list(state.registers)
+    registers[PC] = (registers[PC] + 2) & 0xFFFF
+    return replace(state, registers=tuple(registers))
+
+
+class Operands:
+    """The addresses that the operands of an instruction have, and those of the pointers and index words before them."""
+
+    def __init__(self, state, code):
+        self.state, self.registers, self.code = state, list(after_the_word(state).registers), code
+        self.addresses, self.pointed = [], []
+
+    def read(self, address):
+        """Reads a pointer or an index word."""
+        self.addresses.append(address)
+        return word_of(self.state, address)
+
+    def operand(self, spec, size):
+        """Notes the address of an operand."""
+        mode, number = spec >> 3, spec & 7
+        step = size if number < SP and mode in (2, 4) else 2
+        if mode == 0:
+            return
+        if mode in (4, 5):
+            self.registers[number] = (self.registers[number] - step) & 0xFFFF
+        if mode >= 6:
+            index = self.read(self.registers[PC])
+            self.registers[PC] = (self.registers[PC] + 2) & 0xFFFF
+            address = (self.registers[number] + index) & 0xFFFF
+        else:
+            address = self.registers[number]
+        if mode in (2, 3):
+            self.registers[number] = (self.registers[number] + step) & 0xFFFF
+        if mode in (3, 5, 7):
+            address = self.read(address)
+        self.addresses.append(address)
+
+
+def addresses_of(state, code):
+    """All addresses at which an instruction has or seeks words, as far as they can be found."""
+    found = Operands(state, code)
+    is_byte = bool(code >> 15) and code >> 12 & 7 != 6
+    try:
+        if 1 <= code >> 12 & 7 <= 6:
+            found.operand(code >> 6 & 63, 1 if is_byte else 2)
+        found.operand(code & 63, 1 if is_byte else 2)
+    except Failed:
+        pass
+    pushed = (found.registers[SP] - 2) & 0xFFFF
+    return [state.registers[PC], *found.addresses, *([pushed] if code >> 9 == 4 else []), *((state.registers[SP], state.registers[SP] + 2) if code in (RTI, RTT) or
+            code >> 3 == 0o20 or code >> 6 == 0o64 else ())]
+
+
+def is_double(code):
+    """Whether an instruction has a source and a destination, and the source is a register: those of two operands, and XOR."""
+    return 1 <= code >> 12 & 7 <= 6 and not code & 0o7000 or code >> 9 == 0o74
+
+
+def register_first(before, mine, other, code):
+    """There a register as a source is read after the address of the destination is formed."""
+    source, mode, number = code >> 6 & 7, code >> 3 & 7, code & 7
+    is_changed = number == source and 2 <= mode <= 5 or source == PC and (mode >= 6 or number == PC and mode)
+    changed = [at for at, (one, two) in enumerate(zip(mine.memory, other.memory)) if one != two]
+    is_little = mine.registers[:PSW] == other.registers[:PSW] and not (mine.registers[PSW] ^ other.registers[PSW]) & ~CODES and len(changed) <= 1
+    return bool(mode and is_double(code) and is_changed and (is_little or 0o177776 in addresses_of(before, code)))
+
+
+def codes_of_a_failed_store(before, mine, other, code):
+    """There an instruction that can't store has set the condition codes; the processor status that the trap pushes shows it."""
+    place = (mine.registers[SP] + 2) // 2
+    changed = [at for at, (one, two) in enumerate(zip(mine.memory, other.memory)) if one != two]
+    return mine.registers == other.registers and changed == [place] and not (mine.memory[place] ^ other.memory[place]) & ~CODES
+
+
+def memory_management(before, mine, other, code):
+    """MFPI and MTPI are instructions there, and reserved here."""
+    return code >> 6 in (0o65, 0o66) and has_trapped(before, mine, 0o10)
+
+
+def has_trapped(before, mine, vector):
+    """Whether the step was a trap here."""
+    return mine.registers[PC] == before.memory[vector // 2]
+
+
+def only_there(before, mine, other, code):
+    """An address of a register that only SIMH's machine has: a trap here."""
+    places = addresses_of(before, code)
+    return has_trapped(before, mine, 4) and any(low <= place <= high for place in places for low, high in ONLY_THERE)
+
+
+def console(before, mine, other, code):
+    """The console's registers differ: a transmitter is always ready here, bits of interrupts have no effect, and odd bytes are 0."""
+    return any(CONSOLE[0] <= place <= CONSOLE[1] for place in addresses_of(before, code))
+
+
+def high_bits(before, mine, other, code):
+    """The high byte of a processor status counts there: it has the modes of memory management."""
+    return bool(other.registers[PSW] & HIGH_BITS) and not (mine.registers[PSW] ^ other.registers[PSW]) & 0xFF and mine.registers[PC] == other.registers[PC]
+
+
+def stack_fault(before, mine, other, code):
+    """A trap that can't push stops the machine here; there it takes a stack at 4, or stops."""
+    return mine.stop == "STACK FAULT"
+
+
+def trace_of_a_return(before, mine, code):
+    """There a trace trap follows RTI and RTT if T was set before them; here if it is set at the end, and not after RTT."""
+    return trapped(mine, 0o14) if code in (RTI, RTT) and before.registers[PSW] & TRACE else None
+
+
+def stack_limit(before, mine, code):
+    """There a push below 400 leads to a trap through 4 after the instruction."""
+    return trapped(mine, 4) if mine.registers[SP] < STACK_LIMIT else None
+
+
+def jump_to_a_register(before, mine, code):
+    """JMP and JSR to a register trap through 4 there, and through 10 here."""
+    is_jump = code >> 3 == 0o10 or code >> 9 == 4 and not code & 0o70
+    return trapped(replace(after_the_word(before), fetched=mine.fetched), 4) if is_jump and has_trapped(before, mine, 0o10) else None
+
+
+# What is looked at, and what SIMH's state is computed for.
+SEEN = {"register-first": (register_first, PROCESSOR + "#operands"), "codes-of-a-failed-store": (codes_of_a_failed_store, PROCESSOR + "#results"),
+        "memory-management": (memory_management, COMING + "#coming-from-other-tools"), "only-there": (only_there, PROCESSOR + "#memory-and-registers"),
+        "console": (console, PROCESSOR + "#memory-and-registers"), "high-bits": (high_bits, PROCESSOR + "#memory-and-registers"),
+        "stack-fault": (stack_fault, PROCESSOR + "#stack-jumps-and-traps")}
+COMPUTED = {"trace-of-a-return": (trace_of_a_return, PROCESSOR + "#stack-jumps-and-traps"), "stack-limit": (stack_limit, PROCESSOR),
+            "jump-to-a-register": (jump_to_a_register, PROCESSOR + "#stack-jumps-and-traps")}

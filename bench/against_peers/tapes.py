@@ -1,0 +1,65 @@
+"""The kind `tapes`: random programs on m11's machine and on SIMH's 11/40."""
+from against_peers import machines
+from against_peers.programs import program_of
+from against_peers.results import AGREES, Result
+from against_peers.search import first_difference, is_same
+from against_peers.tape_rules import COMPUTED, SEEN, Failed, word_of
+
+NAME = "tapes"
+STOPS = {"HALT": "HALT instruction", "LIMIT": "Step expired", "WAIT": "Step expired"}
+
+
+def missing(programs):
+    """The peer that isn't there, if it isn't."""
+    return "" if programs.simh else "SIMH's pdp11"
+
+
+def check(programs, seed, numbers, room):
+    """The results for the tapes with these numbers, which SIMH runs in one start."""
+    tapes = [(number, program_of(seed, number)) for number in numbers]
+    mine = [machines.ours(programs, program.tape(), program.steps, room) for _, program in tapes]
+    other = machines.theirs(programs, [(program.tape(), state) for (_, program), state in zip(tapes, mine)], room)
+    for (number, program), one, two in zip(tapes, mine, other):
+        agrees = is_same(one, two) and STOPS.get(one.stop) == two.stop and not one.console
+        yield number, AGREES if agrees else explained(programs, program.tape(), one, room), shown(program)
+
+
+def explained(programs, tape, last, room):
+    """The result for a tape that differs: the rule of its first step that does."""
+    found = first_difference(programs, tape, last.steps, room)
+    if found is None:
+        return Result([], "the states of single steps don't differ")
+    step, (before, _), (mine, other) = found
+    try:
+        code = word_of(before, before.registers[7])
+    except Failed:
+        code = 0
+    for name, (rule, _) in COMPUTED.items():
+        if is_computed(programs, tape, rule, before, mine, code, room):
+            return Result([name])
+    for name, (rule, _) in SEEN.items():
+        if rule(before, mine, other, code):
+            return Result([name])
+    return Result([], text_of(step, code, before, mine, other))
+
+
+def is_computed(programs, tape, rule, before, mine, code, room):
+    """Whether SIMH has the state that a rule computes."""
+    try:
+        wanted = rule(before, mine, code)
+    except Failed:
+        return False
+    return wanted is not None and is_same(wanted, machines.theirs(programs, [(tape, wanted)], room)[0])
+
+
+def text_of(step, code, before, mine, other):
+    """What differs after a step."""
+    cells = [f"{2 * at:06o}: {one:06o} {two:06o}" for at, (one, two) in enumerate(zip(mine.memory, other.memory)) if one != two][:5]
+    lines = [f"step {step}, instruction {code:06o} at {before.registers[7]:06o}: m11 {mine.stop}, SIMH {other.stop}, {'there' if other.is_there else 'elsewhere'}"]
+    lines += [f"{name} {' '.join(f'{word:06o}' for word in state.registers)}" for name, state in (("before", before), ("m11   ", mine), ("SIMH  ", other))]
+    return "\n".join(lines + cells)
+
+
+def shown(program):
+    """The words of a program."""
+    return "\n".join(f"{address:06o}: {word:06o}" for address, word in sorted(program.words.items()))
