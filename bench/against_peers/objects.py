@@ -72,7 +72,8 @@ def value_of(number, symbols, is_byte=False):
 
 @dataclass
 class Module:
-    """One module. `cells` has the bytes without relocations, and `values` those bytes and words with them, by section and location."""
+    """One module. `cells` has the bytes without relocations, and `values` those bytes and words with them, by section and
+    location. `writes` has all of both, in the order in which they are stored."""
     title: str = ""
     ident: str = ""
     sections: dict = field(default_factory=dict)
@@ -83,6 +84,7 @@ class Module:
     values: dict = field(default_factory=dict)
     complex: dict = field(default_factory=dict)
     order: list = field(default_factory=list)
+    writes: list = field(default_factory=list)
 
 
 class Reader:
@@ -131,6 +133,7 @@ class Reader:
         for index, byte in enumerate(data[4:]):
             place = (self.section, (self.text_at + index) % 65536)
             self.module.cells[place] = byte
+            self.module.writes.append((place, Value(byte, (), True)))
             self.module.values.pop(place, None)
             before = (self.section, place[1] - 1)
             if before in self.module.values and not self.module.values[before].is_byte:
@@ -178,6 +181,7 @@ class Reader:
 
     def store(self, place, value):
         """Stores a value over the bytes of the text."""
+        self.module.writes.append(((self.section, place), value))
         self.module.values[self.section, place] = value
         self.module.cells.pop((self.section, place), None)
         if not value.is_byte:

@@ -168,3 +168,16 @@ def program_of(seed, number):
     """A program, by its number."""
     chance = random.Random(f"tapes {seed} {number}")
     return safe_program(chance) if number % 2 == 0 else wild_program(chance)
+
+
+def read(text):
+    """A program that is written as lines of an address, a colon and words, and a line with the steps. What follows a `;` is a comment."""
+    program = Program()
+    for line in text.splitlines():
+        line = line.partition(";")[0].strip()
+        address, _, words = line.partition(":")
+        if line.startswith("steps"):
+            program.steps = int(line.split()[1])
+        elif line:
+            program.words.update({int(address, 8) + 2 * index: int(word, 8) for index, word in enumerate(words.split())})
+    return program

@@ -67,13 +67,14 @@ LINE_RULES = (
     rule("no-rounds", LANGUAGE + "#repeats-and-macros", (".REPT 0|NOP|.ENDR", "NOP|;|;", "||", "||"), (".REPT -1|NOP|.ENDR", "NOP|;|;", "||", "||")),
     rule("text-after-a-group", LANGUAGE + "#directives", (".ASCII /A/<12>/B/|.EVEN", '.ASCII /A/<12>"B"|.EVEN', "|", "Invalid expression|")),
     rule("register-expressions", LANGUAGE + "#expressions", ("CLR %<1+2>", "CLR %3", "", ""), ("CLR R1+1", "CLR R2", "", "")),
-    rule("blank-before-a-comma", LANGUAGE + "#lines-and-statements", ("MOV (R0) ,R1", "MOV (R0),R1", "", "Illegal syntax")),
+    rule("blank-before-a-comma", LANGUAGE + "#lines-and-statements", *((f"MOV {text} ,R1", f"MOV {text},R1", "", "Illegal syntax") for text in
+         ("(R0)+", "@(R0)+", "-(R0)", "2(R0)", "@2(R0)", "#2", "@#2"))),
     rule("radix-without-a-number", LANGUAGE + "#directives", (".RADIX 10.|.WORD 19|.RADIX", ".RADIX 10.|.WORD 19|.RADIX 8.", "||", "||Illegal radix")),
     rule("page", LANGUAGE + "#directives", (".PAGE", ";", "", "Unimplemented directive .PAGE")),
     rule("attributes-again", LANGUAGE + "#directives", (".PSECT QA,ABS,OVR|.PSECT QA|.PSECT PA", ".PSECT QA,ABS,OVR|.PSECT QA,ABS,OVR|.PSECT PA", "||", "||")),
     rule("narg-of-missing-actuals", LANGUAGE + "#directives", *((f".MACRO QM A,B,C|.NARG QN|.WORD QN|.ENDM|QM{text}", ";|;|;|;|.WORD 0", "||||", "||||")
          for text in ("", " 1", " 1,2", " 1,2,"))),
-    rule("caret-in-an-actual", QUIET, (".MACRO QC A|.WORD A+1|.ENDM|QC ^D2", ";|;|;|.WORD 3", "|||", "|||")),
+    rule("caret-in-an-actual", QUIET, (".MACRO QC A|.WORD A+1|.ENDM|QC ^D2 ; x", ";|;|;|.WORD 3", "|||", "|||")),
     rule("defined-and-zero", LANGUAGE + "#conditions", ("QZ=0|.IF DF NONE&QZ|.WORD 1|.ENDC", "QZ=0|;|;|;", "|||", "|||")),
 )
 # Rules of lines in any spelling: their patterns, what macro11 says of such a line, and what stands in the place of the part.

@@ -15,7 +15,7 @@ class Statements(Expressions):
 
     def __init__(self, chance):
         super().__init__(chance)
-        self.is_odd, self.macros, self.count, self.entered = False, [], 0, {}
+        self.is_odd, self.is_plain, self.macros, self.count, self.entered = False, False, [], 0, {}
 
     def fresh(self, letter):
         """A name that nothing has yet."""
@@ -120,7 +120,7 @@ class Statements(Expressions):
             return self.even() + [self.instruction()]
         if kind < .9:
             return self.data()
-        return [self.assignment()] if kind < .96 else [self.spelled(".GLOBL", self.chance.choice(OUTSIDE))]
+        return [self.assignment()] if kind < .96 and not self.is_plain else [self.spelled(".GLOBL", self.chance.choice(OUTSIDE))]
 
     def some(self, most):
         """Several lines."""
@@ -156,5 +156,7 @@ class Statements(Expressions):
 
     def plain_body(self):
         """Lines of a body that mean the same each time."""
+        self.is_plain = True
         lines = ["\t.EVEN", *self.some(3)]
-        return [line for line in lines if "=" not in line or ".=" in line]
+        self.is_plain = False
+        return lines

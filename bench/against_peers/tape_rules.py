@@ -116,7 +116,7 @@ def codes_of_a_failed_store(before, mine, other, code):
 
 def memory_management(before, mine, other, code):
     """MFPI and MTPI are instructions there, and reserved here."""
-    return code >> 6 in (0o65, 0o66) and has_trapped(before, mine, 0o10)
+    return code >> 6 in (0o65, 0o66, 0o1065, 0o1066) and has_trapped(before, mine, 0o10)
 
 
 def has_trapped(before, mine, vector):
@@ -136,8 +136,29 @@ def console(before, mine, other, code):
 
 
 def high_bits(before, mine, other, code):
-    """The high byte of a processor status counts there: it has the modes of memory management."""
+    """The high byte of a processor status counts there: it has the modes of memory management. It is in the register, or in what a trap has pushed."""
+    place = (mine.registers[SP] + 2) // 2
+    changed = [at for at, (one, two) in enumerate(zip(mine.memory, other.memory)) if one != two]
+    if mine.registers == other.registers and changed == [place]:
+        return not (mine.memory[place] ^ other.memory[place]) & ~HIGH_BITS
     return bool(other.registers[PSW] & HIGH_BITS) and not (mine.registers[PSW] ^ other.registers[PSW]) & 0xFF and mine.registers[PC] == other.registers[PC]
+
+
+def stack_pointer_of_a_call(before, mine, other, code):
+    """JSR SP pushes SP as it was here, and as it is after the push there."""
+    place = (before.registers[SP] - 2) // 2
+    changed = [at for at, (one, two) in enumerate(zip(mine.memory, other.memory)) if one != two]
+    return code >> 6 == 0o46 and mine.registers == other.registers and changed == [place] and mine.memory[place] - other.memory[place] == 2
+
+
+def same_place(before, mine, other, code):
+    """A fetch that fails, and a trap that leads to the same place: SIMH can't be stopped between the two. The step here is a trap through 4."""
+    try:
+        word_of(before, before.registers[PC])
+    except Failed:
+        wanted = trapped(before, 4)
+        return before.registers[PC] == mine.registers[PC] and other.registers == before.registers and (wanted.registers, wanted.memory) == (mine.registers, mine.memory)
+    return False
 
 
 def stack_fault(before, mine, other, code):
@@ -165,6 +186,7 @@ def jump_to_a_register(before, mine, code):
 SEEN = {"register-first": (register_first, PROCESSOR + "#operands"), "codes-of-a-failed-store": (codes_of_a_failed_store, PROCESSOR + "#results"),
         "memory-management": (memory_management, COMING + "#coming-from-other-tools"), "only-there": (only_there, PROCESSOR + "#memory-and-registers"),
         "console": (console, PROCESSOR + "#memory-and-registers"), "high-bits": (high_bits, PROCESSOR + "#memory-and-registers"),
-        "stack-fault": (stack_fault, PROCESSOR + "#stack-jumps-and-traps")}
+        "stack-pointer-of-a-call": (stack_pointer_of_a_call, PROCESSOR + "#stack-jumps-and-traps"),
+        "same-place": (same_place, PROCESSOR + "#stack-jumps-and-traps"), "stack-fault": (stack_fault, PROCESSOR + "#stack-jumps-and-traps")}
 COMPUTED = {"trace-of-a-return": (trace_of_a_return, PROCESSOR + "#stack-jumps-and-traps"), "stack-limit": (stack_limit, PROCESSOR),
             "jump-to-a-register": (jump_to_a_register, PROCESSOR + "#stack-jumps-and-traps")}

@@ -20,8 +20,13 @@ def check(programs, seed, numbers, room):
     mine = [machines.ours(programs, program.tape(), program.steps, room) for _, program in tapes]
     other = machines.theirs(programs, [(program.tape(), state) for (_, program), state in zip(tapes, mine)], room)
     for (number, program), one, two in zip(tapes, mine, other):
-        agrees = is_same(one, two) and STOPS.get(one.stop) == two.stop and not one.console
-        yield number, AGREES if agrees else explained(programs, program.tape(), one, room), shown(program)
+        yield number, result(programs, program.tape(), one, two, room), shown(program)
+
+
+def result(programs, tape, mine, other, room):
+    """The result for a tape with these states."""
+    agrees = is_same(mine, other) and STOPS.get(mine.stop) == other.stop and not mine.console
+    return AGREES if agrees else explained(programs, tape, mine, room)
 
 
 def explained(programs, tape, last, room):
@@ -38,7 +43,7 @@ def explained(programs, tape, last, room):
         if is_computed(programs, tape, rule, before, mine, code, room):
             return Result([name])
     for name, (rule, _) in SEEN.items():
-        if rule(before, mine, other, code):
+        if is_seen(rule, before, mine, other, code):
             return Result([name])
     return Result([], text_of(step, code, before, mine, other))
 
@@ -50,6 +55,14 @@ def is_computed(programs, tape, rule, before, mine, code, room):
     except Failed:
         return False
     return wanted is not None and is_same(wanted, machines.theirs(programs, [(tape, wanted)], room)[0])
+
+
+def is_seen(rule, before, mine, other, code):
+    """Whether a rule explains the states after a step."""
+    try:
+        return bool(rule(before, mine, other, code))
+    except Failed:
+        return False
 
 
 def text_of(step, code, before, mine, other):

@@ -1,0 +1,94 @@
+"""Checks of bench/against, which compares m11 with independent programs. CHECKS lists them for tools/test.py.
+
+The comparison itself is listed only where there is a folder of peers: the one that the variable M11_PEERS names, or `peers` beside the repository."""
+import contextlib
+import io
+import os
+import re
+import sys
+import tempfile
+from pathlib import Path
+
+TOP = os.path.dirname(os.path.dirname(os.path.dirname(os.path.realpath(__file__))))
+sys.path.append(os.path.join(TOP, "bench"))
+
+from against_peers import cases, sources  # noqa: E402
+from against_peers.kinds import KINDS  # noqa: E402
+from against_peers.main import main  # noqa: E402
+from against_peers.objects import module_of  # noqa: E402
+from against_peers.placing import Placed  # noqa: E402
+from against_peers.running import Programs  # noqa: E402
+from against_peers.source_rules import ALL_LINE_RULES, MISTAKES  # noqa: E402
+
+PEERS = os.environ.get("M11_PEERS") or os.path.join(os.path.dirname(TOP), "peers")
+# How many cases of each kind are compared, and from which one on: instructions have blocks of random words behind those of operators.
+COUNTS = {"sources": 150, "instructions": 60, "tapes": 40, "links": 20}
+
+
+def programs():
+    """The programs, ours as the other tests name them."""
+    found = Programs(PEERS)
+    for name, variable in (("m11", "M11"), ("dump", "M11_DUMP"), ("trace", "M11_TRACE")):
+        if os.environ.get(variable):
+            setattr(found, name, Path(os.environ[variable]).absolute())
+    return found
+
+
+def anchors(page):
+    """The anchors of the headings of a page."""
+    with open(os.path.join(TOP, page), encoding="utf-8") as file:
+        heads = re.findall(r"^#+ (.*)$", file.read(), re.M)
+    return {re.sub(r"[^\w\- ]", "", head.lower()).replace(" ", "-") for head in heads}
+
+
+def check_rules():
+    """Each rule has a case and a place on a page, and each case has a rule."""
+    pages, files = cases.pages(), cases.paths()
+    found = [f"{name}: a rule without a case, or a case without a rule" for name in sorted(set(pages) ^ set(files))]
+    for name, place in sorted(pages.items()):
+        page, _, anchor = place.partition("#")
+        if anchor and anchor not in anchors(page):
+            found.append(f"{name}: {place} isn't there")
+    return found
+
+
+def check_placing():
+    """The meaning of an object, and where a link stores it, for an object that is kept."""
+    with open(os.path.join(TOP, "examples", "link", "MAIN.OBJ"), "rb") as file:
+        main_module = module_of(file.read())
+    with open(os.path.join(TOP, "examples", "link", "TEXT.OBJ"), "rb") as file:
+        placed = Placed([main_module, module_of(file.read())])
+    got = (placed.globals, placed.top, placed.start, placed.memory[0o1002] | placed.memory[0o1003] << 8, len(placed.memory))
+    wanted = ({"TEXT": 0o1026}, 0o1034, 0o1000, 0o1026, 0o34)
+    return [] if got == wanted else [f"placed {got}, should be {wanted}"]
+
+
+def check_cases():
+    """Each case differs by its rule and nothing else, and so do all lines of the rules; lines that both flag don't differ."""
+    found, all_programs = [], programs()
+    with tempfile.TemporaryDirectory() as folder:
+        room = Path(folder)
+        for name, path in cases.paths().items():
+            result = cases.result(all_programs, path, room)
+            if result is not None and (result.rules != [name] or result.unexplained):
+                found.append(f"{name}: {result}")
+        if not sources.missing(all_programs):
+            rows = [(each.lines, [each.name]) for each in ALL_LINE_RULES] + [(lines, []) for lines in MISTAKES]
+            for lines, wanted in rows:
+                result = sources.compare(all_programs, ["\t.TITLE\tCASE", "L0:\tNOP", *lines, "\t.EVEN", "\tHALT", "\t.END"], room)
+                if result.rules != wanted or result.unexplained:
+                    found.append(f"{lines}: {result}")
+    return found
+
+
+def check_random(kind):
+    """Some cases of a kind: nothing is unexplained."""
+    said = io.StringIO()
+    with contextlib.redirect_stdout(said):
+        status = main([PEERS, "--only", kind, "--count", str(COUNTS[kind]), "--minutes", "1", "--seed", "7"])
+    return [said.getvalue()] if status else []
+
+
+CHECKS = [("peers-rules", check_rules, ()), ("peers-placing", check_placing, ())]
+if os.path.isdir(PEERS):
+    CHECKS += [("peers-cases", check_cases, ())] + [(f"peers-{kind}", check_random, (kind,)) for kind in KINDS]
