@@ -88,7 +88,9 @@ class Grammar(Statements):
 
     def head(self):
         """The lines at the beginning, with what all others may refer to."""
-        lines = [self.pick("\t.TITLE\tSRC", "\t.TITLE TITLES of more", *["\t.TITLE NAMED"] * 6, "")] + ([self.pick("\t.IDENT\t/V01/", "\t.IDENT /V01.05/")] if self.chance.random() < .4 else [])
+        lines = [self.pick("\t.TITLE\tSRC", "\t.TITLE TITLES of more", *["\t.TITLE NAMED"] * 6, "")]
+        if self.chance.random() < .4:
+            lines.append(self.pick("\t.IDENT\t/V01/", "\t.IDENT /V01.05/"))
         for index in range(4):
             lines.append(f"C{index}" + self.pick("=", "==", " = ") + (self.pick("0", "1", "2", "3") if index in (0, 2) else self.absolute()))
             self.constants.append(f"C{index}")

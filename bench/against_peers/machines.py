@@ -52,7 +52,8 @@ def orders(path, mine, number, top):
     go_on = [] if mine.stop == "HALT" else [f"break {place:o}", "step 1", f"nobreak {place:o}"]
     clear = [f"dep {name.lower()} 0" for name in ("R0", "R1", "R2", "R3", "R4", "R5", "SP", "PSW")]
     # A breakpoint that stopped SIMH doesn't stop it again until it has looked for one at another place: it does so at the NOP.
-    return ["reset all", "load ZERO.TAP", "dep 0 240", "dep pc 0", "step 1", "dep 0 0", f"load {path}", *clear, f"echo {MARK}{number}", f"step {steps}" if steps else "echo", f"echo {MARK}stopped",
+    return ["reset all", "load ZERO.TAP", "dep 0 240", "dep pc 0", "step 1", "dep 0 0", f"load {path}", *clear, f"echo {MARK}{number}",
+            f"step {steps}" if steps else "echo", f"echo {MARK}stopped",
             *go_on, f"echo {MARK}state", "ex r0-r5,sp,pc,psw", f"ex 0-{top:o}"]
 
 

@@ -50,7 +50,8 @@ LINE_RULES = (
     rule("too-large", COMING, (".BYTE 400|.EVEN", ".BYTE 0|.EVEN", "T|", "|"), ("EMT 400", ".WORD 104400", "T", ""), ("MARK 100", ".WORD 6500", "T", ""),
          (".WORD 200000", ".WORD 0", "T", "")),
     rule("text-without-end", COMING, (".ASCIZ /ABC|.EVEN", ".ASCIZ /ABC/|.EVEN", "A|", "|")),
-    rule("missing-arguments", LANGUAGE + "#flags", (".GLOBL", ";", "A", ""), (".IDENT", ";", "A", ""), (".ASCII", ";", "A", ""), (".IF XX 1|.ENDC", ";|;", "A|", "|")),
+    rule("missing-arguments", LANGUAGE + "#flags", (".GLOBL", ";", "A", ""), (".IDENT", ";", "A", ""), (".ASCII", ";", "A", ""),
+         (".IF XX 1|.ENDC", ";|;", "A|", "|")),
     [LineRule("label-assigned", LANGUAGE + "#flags", ("LX:", "LX=5"), ("LX:", ";"), ("", "M"), ("", ""))],
     [LineRule("twice-defined", LANGUAGE + "#flags", ("LE:\tNOP", "LE:\tNOP", "\t.WORD LE"), ("LE:\tNOP", "\tNOP", "\t.WORD LE"), ("", "M", "D"),
               ("", "Illegal symbol definition LE", ""))],
@@ -69,7 +70,8 @@ LINE_RULES = (
     rule("register-expressions", LANGUAGE + "#expressions", ("CLR %<1+2>", "CLR %3", "", ""), ("CLR R1+1", "CLR R2", "", "")),
     rule("blank-before-a-comma", LANGUAGE + "#lines-and-statements", *((f"MOV {text} ,R1", f"MOV {text},R1", "", "Illegal syntax") for text in
          ("(R0)+", "@(R0)+", "-(R0)", "2(R0)", "@2(R0)", "#2", "@#2"))),
-    rule("radix-without-a-number", LANGUAGE + "#directives", (".RADIX 10.|.WORD 19|.RADIX", ".RADIX 10.|.WORD 19|.RADIX 8.", "||", "||Illegal radix")),
+    rule("radix-without-a-number", LANGUAGE + "#directives",
+         (".RADIX 10.|.WORD 19|.RADIX|.RADIX 8.", ".RADIX 10.|.WORD 19|.RADIX 8.|;", "|||", "||Illegal radix|")),
     rule("page", LANGUAGE + "#directives", (".PAGE", ";", "", "Unimplemented directive .PAGE")),
     rule("attributes-again", LANGUAGE + "#directives", (".PSECT QA,ABS,OVR|.PSECT QA|.PSECT PA", ".PSECT QA,ABS,OVR|.PSECT QA,ABS,OVR|.PSECT PA", "||", "||")),
     rule("narg-of-missing-actuals", LANGUAGE + "#directives", *((f".MACRO QM A,B,C|.NARG QN|.WORD QN|.ENDM|QM{text}", ";|;|;|;|.WORD 0", "||||", "||||")

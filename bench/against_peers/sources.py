@@ -12,6 +12,8 @@ from against_peers.source_rules import ALL_LINE_RULES, MISTAKES, PATTERN_RULES, 
 NAME = "sources"
 # How often a source has a mistake that both flag, and lines by which the two differ.
 MISTAKEN, DIFFERING = .15, .2
+# How often lines of rules are replaced.
+ROUNDS = 4
 
 
 def programs_here():
@@ -42,18 +44,20 @@ def text_of(lines):
 
 
 def compare(programs, lines, room):
-    """The result for a source."""
-    mine, other = ours(programs, text_of(lines), room), theirs(programs, text_of(lines), room)
-    rules, left = remaining(mine, other, text_of(lines))
-    if not left:
-        return Result(rules) if rules else AGREES
-    blocks = [block for block in blocks_in(lines) if is_said(block, mine, other)]
-    plain, patterns = by_patterns(plain_source(lines, blocks), mine, other)
-    if not blocks and not patterns:
-        return Result(rules, left)
-    plain_mine, plain_other = ours(programs, text_of(plain), room), theirs(programs, text_of(plain), room)
-    plain_rules, plain_left = remaining(plain_mine, plain_other, text_of(plain))
-    return Result(sorted({*(block[1].name for block in blocks), *patterns, *plain_rules}), plain_left and f"{left}\nin its plain form: {plain_left}")
+    """The result for a source. Lines of rules are replaced until nothing is left, since what one rule does may show what another one does."""
+    names, first = set(), ""
+    for _ in range(ROUNDS):
+        mine, other = ours(programs, text_of(lines), room), theirs(programs, text_of(lines), room)
+        rules, left = remaining(mine, other, text_of(lines))
+        first = first or left
+        if not left:
+            return Result(sorted(names | set(rules))) if names or rules else AGREES
+        blocks = [block for block in blocks_in(lines) if is_said(block, mine, other)]
+        lines, patterns = by_patterns(plain_source(lines, blocks), mine, other)
+        if not blocks and not patterns:
+            break
+        names |= {block[1].name for block in blocks} | patterns
+    return Result(sorted(names), first if first == left else f"{first}\nin its plain form: {left}")
 
 
 def remaining(mine, other, source):

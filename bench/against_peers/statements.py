@@ -25,7 +25,8 @@ class Statements(Expressions):
     def spelled(self, operator, operands=""):
         """A line, in one of several spellings."""
         operator = operator.lower() if self.chance.random() < .1 else operator
-        return self.pick("\t", "\t", " ", "") + operator + (self.pick("\t", " ", "  ") + operands if operands else "") + self.pick("", "", "", "\t; a comment", " ;x")
+        begin, after = self.pick("\t", "\t", " ", ""), self.pick("\t", " ", "  ") + operands if operands else ""
+        return begin + operator + after + self.pick("", "", "", "\t; a comment", " ;x")
 
     def even(self):
         """A line that makes the location even, if it may be odd."""
@@ -64,7 +65,8 @@ class Statements(Expressions):
             self.is_odd = True
             return [self.spelled(self.pick(".ASCII", ".ASCIZ"), self.text())]
         if kind < .78:
-            return self.even() + [self.spelled(".RAD50", "/" + "".join(self.chance.choice(LETTERS + DIGITS + "$. ") for _ in range(self.chance.randint(1, 8))) + "/")]
+            characters = "".join(self.chance.choice(LETTERS + DIGITS + "$. ") for _ in range(self.chance.randint(1, 8)))
+            return self.even() + [self.spelled(".RAD50", f"/{characters}/")]
         if kind < .84:
             return self.even() + [self.spelled(".BLKW", self.small(6))]
         if kind < .9:
@@ -148,9 +150,11 @@ class Statements(Expressions):
             lines = [self.spelled(".REPT", self.pick("1", "2", "3", "<1+1>", "C2+1")), *self.plain_body(), self.pick("\t.ENDR", "\t.ENDM")]
         elif kind < .75:
             actuals = ",".join(self.pick("1", "2", "R0", "A2", "C0", "", "L0") for _ in range(self.chance.randint(0, 3))) + self.pick(",1", ",L0")
-            lines = [self.spelled(".IRP", "F," + f"<{actuals}>"), self.pick("\t.ASCII\t/F/", "\t.NCHR\tNC,<F>\n\t.BYTE\tNC", "\t.IIF NB <F>, .BYTE 1"), "\t.ENDR"]
+            body = self.pick("\t.ASCII\t/F/", "\t.NCHR\tNC,<F>\n\t.BYTE\tNC", "\t.IIF NB <F>, .BYTE 1")
+            lines = [self.spelled(".IRP", f"F,<{actuals}>"), body, "\t.ENDR"]
         else:
-            lines = [self.spelled(".IRPC", "F," + "<" + self.pick("AB", "123", "", "X") + ">"), self.pick("\t.ASCII\t/F/", "\t.BYTE\t'F", "\t.ASCII /'F'/"), "\t.ENDR"]
+            body = self.pick("\t.ASCII\t/F/", "\t.BYTE\t'F", "\t.ASCII /'F'/")
+            lines = [self.spelled(".IRPC", f"F,<{self.pick('AB', '123', '', 'X')}>"), body, "\t.ENDR"]
         self.constants, self.is_odd = constants, True
         return before + lines
 

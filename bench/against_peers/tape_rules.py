@@ -89,8 +89,9 @@ def addresses_of(state, code):
     except Failed:
         pass
     pushed = (found.registers[SP] - 2) & 0xFFFF
-    return [state.registers[PC], *found.addresses, *([pushed] if code >> 9 == 4 else []), *((state.registers[SP], state.registers[SP] + 2) if code in (RTI, RTT) or
-            code >> 3 == 0o20 or code >> 6 == 0o64 else ())]
+    pops = code in (RTI, RTT) or code >> 3 == 0o20 or code >> 6 == 0o64
+    popped = (state.registers[SP], state.registers[SP] + 2) if pops else ()
+    return [state.registers[PC], *found.addresses, *([pushed] if code >> 9 == 4 else []), *popped]
 
 
 def is_double(code):
@@ -157,7 +158,8 @@ def same_place(before, mine, other, code):
         word_of(before, before.registers[PC])
     except Failed:
         wanted = trapped(before, 4)
-        return before.registers[PC] == mine.registers[PC] and other.registers == before.registers and (wanted.registers, wanted.memory) == (mine.registers, mine.memory)
+        is_trap = (wanted.registers, wanted.memory) == (mine.registers, mine.memory)
+        return is_trap and before.registers[PC] == mine.registers[PC] and other.registers == before.registers
     return False
 
 

@@ -68,7 +68,8 @@ def is_seen(rule, before, mine, other, code):
 def text_of(step, code, before, mine, other):
     """What differs after a step."""
     cells = [f"{2 * at:06o}: {one:06o} {two:06o}" for at, (one, two) in enumerate(zip(mine.memory, other.memory)) if one != two][:5]
-    lines = [f"step {step}, instruction {code:06o} at {before.registers[7]:06o}: m11 {mine.stop}, SIMH {other.stop}, {'there' if other.is_there else 'elsewhere'}"]
+    where = "there" if other.is_there else "elsewhere"
+    lines = [f"step {step}, instruction {code:06o} at {before.registers[7]:06o}: m11 {mine.stop}, SIMH {other.stop}, {where}"]
     lines += [f"{name} {' '.join(f'{word:06o}' for word in state.registers)}" for name, state in (("before", before), ("m11   ", mine), ("SIMH  ", other))]
     return "\n".join(lines + cells)
 
