@@ -1,6 +1,6 @@
 """The states in which programs leave m11's machine and SIMH's 11/40, after a number of steps."""
 import re
-from dataclasses import dataclass
+from dataclasses import dataclass, replace
 
 from against_peers.programs import block
 from against_peers.running import Hung, run
@@ -71,7 +71,9 @@ def theirs(programs, tapes, room, top=TOP_ADDRESS):
     except Hung:
         return [None] * len(tapes)
     parts = re.split(rf"^{MARK}(?=\d|end)", printed, flags=re.M)[1:-1]
-    return [state_of(part, mine) for part, (_, mine) in zip(parts, tapes)]
+    found = [state_of(part, mine) for part, (_, mine) in zip(parts, tapes)]
+    # What programs print comes before all that SIMH itself says, since that waits in a buffer.
+    return [replace(state, console=printed.partition("\nPDP-11 simulator")[0].encode("latin-1")) for state in found]
 
 
 def state_of(part, mine):

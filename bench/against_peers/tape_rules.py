@@ -9,8 +9,9 @@ SP, PC, PSW = 6, 7, 8
 TRACE, HIGH_BITS, CODES = 0o20, 0o170000, 0o17
 STACK_LIMIT = 0o400
 RTI, RTT = 2, 6
+VECTORS = (0o4, 0o10, 0o14, 0o20, 0o30, 0o34)
 # What SIMH has at 160000 and on, and m11's machine hasn't; the devices that can be taken away are. SIMH shows the list by `show cpu iospace`.
-ONLY_THERE = ((0o160100, 0o160137), (0o172300, 0o172317), (0o172340, 0o172357), (0o177546, 0o177547), (0o177570, 0o177577), (0o177600, 0o177617),
+ONLY_THERE = ((0o160100, 0o160137), (0o172300, 0o172317), (0o172340, 0o172357), (0o176700, 0o176753), (0o177546, 0o177547), (0o177570, 0o177577), (0o177600, 0o177617),
               (0o177640, 0o177657))
 CONSOLE = (0o177560, 0o177567)
 
@@ -94,6 +95,11 @@ def addresses_of(state, code):
     return [state.registers[PC], *found.addresses, *([pushed] if code >> 9 == 4 else []), *popped]
 
 
+def changes(mine, other):
+    """The words of memory in which two states differ, as indices."""
+    return [at for at, (one, two) in enumerate(zip(mine.memory, other.memory)) if one != two]
+
+
 def is_double(code):
     """Whether an instruction has a source and a destination, and the source is a register: those of two operands, and XOR."""
     return 1 <= code >> 12 & 7 <= 6 and not code & 0o7000 or code >> 9 == 0o74
@@ -103,7 +109,7 @@ def register_first(before, mine, other, code):
     """There a register as a source is read after the address of the destination is formed."""
     source, mode, number = code >> 6 & 7, code >> 3 & 7, code & 7
     is_changed = number == source and 2 <= mode <= 5 or source == PC and (mode >= 6 or number == PC and mode)
-    changed = [at for at, (one, two) in enumerate(zip(mine.memory, other.memory)) if one != two]
+    changed = changes(mine, other)
     is_little = mine.registers[:PSW] == other.registers[:PSW] and not (mine.registers[PSW] ^ other.registers[PSW]) & ~CODES and len(changed) <= 1
     return bool(mode and is_double(code) and is_changed and (is_little or 0o177776 in addresses_of(before, code)))
 
@@ -111,7 +117,7 @@ def register_first(before, mine, other, code):
 def codes_of_a_failed_store(before, mine, other, code):
     """There an instruction that can't store has set the condition codes; the processor status that the trap pushes shows it."""
     place = (mine.registers[SP] + 2) // 2
-    changed = [at for at, (one, two) in enumerate(zip(mine.memory, other.memory)) if one != two]
+    changed = changes(mine, other)
     return mine.registers == other.registers and changed == [place] and not (mine.memory[place] ^ other.memory[place]) & ~CODES
 
 
@@ -137,9 +143,12 @@ def console(before, mine, other, code):
 
 
 def high_bits(before, mine, other, code):
-    """The high byte of a processor status counts there: it has the modes of memory management. It is in the register, or in what a trap has pushed."""
+    """The high byte of a processor status counts there: it has the modes of memory management. It is in the register, in what a
+    trap has pushed, or in the vector of a trap, which then pushes on another stack."""
+    if any(mine.registers[PC] == before.memory[vector // 2] and before.memory[vector // 2 + 1] & HIGH_BITS for vector in VECTORS):
+        return True
     place = (mine.registers[SP] + 2) // 2
-    changed = [at for at, (one, two) in enumerate(zip(mine.memory, other.memory)) if one != two]
+    changed = changes(mine, other)
     if mine.registers == other.registers and changed == [place]:
         return not (mine.memory[place] ^ other.memory[place]) & ~HIGH_BITS
     return bool(other.registers[PSW] & HIGH_BITS) and not (mine.registers[PSW] ^ other.registers[PSW]) & 0xFF and mine.registers[PC] == other.registers[PC]
@@ -147,9 +156,19 @@ def high_bits(before, mine, other, code):
 
 def stack_pointer_of_a_call(before, mine, other, code):
     """JSR SP pushes SP as it was here, and as it is after the push there."""
-    place = (before.registers[SP] - 2) // 2
-    changed = [at for at, (one, two) in enumerate(zip(mine.memory, other.memory)) if one != two]
-    return code >> 6 == 0o46 and mine.registers == other.registers and changed == [place] and mine.memory[place] - other.memory[place] == 2
+    changed = changes(mine, other)
+    return code >> 6 == 0o46 and mine.registers == other.registers and [mine.memory[at] - other.memory[at] for at in changed] == [2]
+
+
+def codes_before_the_address(before, mine, other, code):
+    """CLR and CLRB set the condition codes there before the address of their operand is formed, which shows if the processor status is a pointer to it."""
+    return code >> 6 in (0o50, 0o1050) and 0o177776 in addresses_of(before, code) and mine.registers == other.registers and len(changes(mine, other)) <= 2
+
+
+def vector_under_the_stack(before, mine, other, code):
+    """A trap here reads its vector after its pushes, which have stored over it; there it reads it before them."""
+    pushed = (mine.registers[SP], mine.registers[SP] + 2)
+    return any(mine.registers[PC] == mine.memory[vector // 2] and {vector, vector + 2} & set(pushed) for vector in VECTORS)
 
 
 def same_place(before, mine, other, code):
@@ -189,6 +208,8 @@ SEEN = {"register-first": (register_first, PROCESSOR + "#operands"), "codes-of-a
         "memory-management": (memory_management, COMING + "#coming-from-other-tools"), "only-there": (only_there, PROCESSOR + "#memory-and-registers"),
         "console": (console, PROCESSOR + "#memory-and-registers"), "high-bits": (high_bits, PROCESSOR + "#memory-and-registers"),
         "stack-pointer-of-a-call": (stack_pointer_of_a_call, PROCESSOR + "#stack-jumps-and-traps"),
+        "codes-before-the-address": (codes_before_the_address, PROCESSOR + "#results"),
+        "vector-under-the-stack": (vector_under_the_stack, PROCESSOR + "#stack-jumps-and-traps"),
         "same-place": (same_place, PROCESSOR + "#stack-jumps-and-traps"), "stack-fault": (stack_fault, PROCESSOR + "#stack-jumps-and-traps")}
 COMPUTED = {"trace-of-a-return": (trace_of_a_return, PROCESSOR + "#stack-jumps-and-traps"), "stack-limit": (stack_limit, PROCESSOR),
             "jump-to-a-register": (jump_to_a_register, PROCESSOR + "#stack-jumps-and-traps")}
