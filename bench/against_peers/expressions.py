@@ -1,7 +1,6 @@
 """Random expressions and operands in the part of the language that m11 and macro11 share.
 
 Numbers stay below 100000, and divisors are small, so that no rule on values of more than 16 bits matters; rules.py has sources for those."""
-CONSTANTS = ("C0", "C1", "C2", "C3")
 REGISTERS = ("R0", "R1", "R2", "R3", "R4", "R5", "SP", "PC")
 OUTSIDE = ("EX0", "EX1", "EX2")
 LETTERS = "ABCDEFGHIJKLMNOPQRSTUVWXYZ"

@@ -29,7 +29,7 @@ def first_difference(programs, tape, last, room):
 
 
 def first_in(programs, tape, last, room, top):
-    """The first step that are alike, and the first ones that differ, given that those after the last step differ."""
+    """The first step after which the states differ, given that they differ after the last one. It is sought as if states that differ stayed different."""
     low, high, found = 0, last, {}
     while high - low > 1 or high not in found or low not in found:
         width = high - low

@@ -11,8 +11,8 @@ STACK_LIMIT = 0o400
 RTI, RTT = 2, 6
 VECTORS = (0o4, 0o10, 0o14, 0o20, 0o30, 0o34)
 # What SIMH has at 160000 and on, and m11's machine hasn't; the devices that can be taken away are. SIMH shows the list by `show cpu iospace`.
-ONLY_THERE = ((0o160100, 0o160137), (0o172300, 0o172317), (0o172340, 0o172357), (0o176700, 0o176753), (0o177546, 0o177547), (0o177570, 0o177577), (0o177600, 0o177617),
-              (0o177640, 0o177657))
+ONLY_THERE = ((0o160100, 0o160137), (0o172300, 0o172317), (0o172340, 0o172357), (0o176700, 0o176753), (0o177546, 0o177547), (0o177570, 0o177577),
+              (0o177600, 0o177617), (0o177640, 0o177657))
 CONSOLE = (0o177560, 0o177567)
 
 
