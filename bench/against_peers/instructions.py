@@ -25,7 +25,7 @@ CODES = ((0o170000, (*range(0o010000, 0o070000, 0o010000), *range(0o110000, 0o17
          (0o177700, (0o000100, 0o000300, *range(0o005000, 0o006500, 0o000100), 0o006700, *range(0o105000, 0o106400, 0o000100))), (0o177770, (0o000200,)),
          (0o177400, (0o104000, 0o104400, *range(0o000400, 0o004000, 0o000400), *range(0o100000, 0o104000, 0o000400))), (0o177740, (0o000240,)),
          (0o177777, range(7)))
-PAGES = {"other-models-shown": "docs/FORMATS.md#instructions"}
+PAGES = {"other-models-shown": "docs/FORMATS.md#instructions", "several-codes-shown": "docs/FORMATS.md#words-as-instructions"}
 
 
 def missing(programs):
@@ -87,12 +87,18 @@ def is_reserved(word):
     return not any(word & mask in values for mask, values in CODES)
 
 
+def several_codes(shown):
+    """What objdump shows for a word that clears or sets several condition codes."""
+    word = int(shown.split()[1], 8) if shown.startswith(".WORD ") else 0
+    return f"{'SE' if word & 0o20 else 'CL'}_{word & 0o17:X}" if word & ~0o37 == 0o240 else ""
+
+
 def compare_words(programs, content, room):
     """The result for random words, as both disassemblers show them."""
     (room / "W.BIN").write_bytes(content)
     (room / "W.TAP").write_bytes(block(0, content) + block(0, b""))
     mine = {int(line[2:8], 8): " ".join(line[30:].split()) for line in run([programs.dump, "-d", room / "W.TAP"])[1].splitlines() if line.startswith("  ")}
-    shown = run([programs.gnu / "pdp11-aout-objdump", "-D", "-b", "binary", "-m", "pdp11", room / "W.BIN"])[1]
+    shown = run([programs.gnu / "pdp11-aout-objdump", "-D", "-z", "-b", "binary", "-m", "pdp11", room / "W.BIN"])[1]
     other = {int(line[:4], 16): from_gnu(line.split("\t", 2)[2]) for line in shown.splitlines() if re.match(r" *[0-9a-f]+:\t", line)}
     return difference(mine, other)
 
@@ -109,6 +115,8 @@ def difference(mine, other):
         if one is not None and one.startswith(".WORD ") and two and is_reserved(int(one.split()[1], 8)):
             rules.add("other-models-shown")
             is_aligned = False
+        elif one is not None and two == several_codes(one):
+            rules.add("several-codes-shown")
         else:
             wrong.append(f"{address:06o}: m11-dump {one}, objdump {two}")
     return Result(sorted(rules), "\n".join(wrong[:5])) if rules or wrong else AGREES
