@@ -8,7 +8,7 @@ PROCESSOR, COMING = "docs/PROCESSOR.md", "docs/COMING.md"
 SP, PC, PSW = 6, 7, 8
 TRACE, HIGH_BITS, CODES = 0o20, 0o170000, 0o17
 STACK_LIMIT = 0o400
-RTI, RTT = 2, 6
+WAIT, RTI, RTT = 1, 2, 6
 VECTORS = (0o4, 0o10, 0o14, 0o20, 0o30, 0o34)
 # What SIMH has at 160000 and on, and m11's machine hasn't; the devices that can be taken away are. SIMH shows the list by `show cpu iospace`.
 ONLY_THERE = ((0o160100, 0o160137), (0o172300, 0o172317), (0o172340, 0o172357), (0o176700, 0o176753), (0o177546, 0o177547), (0o177570, 0o177577),
@@ -192,6 +192,11 @@ def trace_of_a_return(before, mine, code):
     return trapped(mine, 0o14) if code in (RTI, RTT) and before.registers[PSW] & TRACE else None
 
 
+def trace_of_a_wait(before, mine, code):
+    """There a trace trap follows WAIT if T is set; here the machine stops."""
+    return trapped(mine, 0o14) if code == WAIT and mine.registers[PSW] & TRACE else None
+
+
 def stack_limit(before, mine, code):
     """There a push below 400 leads to a trap through 4 after the instruction."""
     return trapped(mine, 4) if mine.registers[SP] < STACK_LIMIT else None
@@ -212,4 +217,5 @@ SEEN = {"register-first": (register_first, PROCESSOR + "#operands"), "codes-of-a
         "vector-under-the-stack": (vector_under_the_stack, PROCESSOR + "#stack-jumps-and-traps"),
         "same-place": (same_place, PROCESSOR + "#stack-jumps-and-traps"), "stack-fault": (stack_fault, PROCESSOR + "#stack-jumps-and-traps")}
 COMPUTED = {"trace-of-a-return": (trace_of_a_return, PROCESSOR + "#stack-jumps-and-traps"), "stack-limit": (stack_limit, PROCESSOR),
+            "trace-of-a-wait": (trace_of_a_wait, PROCESSOR + "#stack-jumps-and-traps"),
             "jump-to-a-register": (jump_to_a_register, PROCESSOR + "#stack-jumps-and-traps")}
