@@ -146,6 +146,14 @@ CHECKS = (
     ("from the last step on", "--from=16 HI.TAP", TAPE, 0, "H\n", "".join(LINES[15:]) + END),
     ("the last steps, where there are sixteen", "-f 17 HI.TAP", TAPE, 0, "H\n", "".join(LINES) + END),
     ("the last steps, where there are more", "-n 99 -f 1000 HI.TAP", LOOP, 1, "", LAST + "LIMIT AFTER 99 STEPS\n" + registers("000062", "000000", "001002", "000000")),
+    ("the last three steps", "-l 3 HI.TAP", TAPE, 0, "H\n", "".join(LINES[13:]) + END),
+    ("the last step", "--last=1 HI.TAP", TAPE, 0, "H\n", LINES[15] + END),
+    ("as many last steps as there are", "-l 16 HI.TAP", TAPE, 0, "H\n", "".join(LINES) + END),
+    ("more last steps than there are", "-l 65535 HI.TAP", TAPE, 0, "H\n", "".join(LINES) + END),
+    ("the last steps, whatever the first one is", "-f 3 -l 2 HI.TAP", TAPE, 0, "H\n", "".join(LINES[14:]) + END),
+    ("the last steps of no step", "-n 0 -l 5 HI.TAP", TAPE, 1, "", "LIMIT AFTER 0 STEPS\n" + NONE),
+    ("more of the last steps than sixteen", "-n 99 -l 20 HI.TAP", LOOP, 1, "", "".join(f"{number}\t001002\tBR     1000\n{number + 1}\t001000\tINC    R0\tR0 {number // 2 + 1:06o}\n" for number in range(80, 100, 2)) + "LIMIT AFTER 99 STEPS\n" + registers("000062", "000000", "001002", "000000")),
+    ("the last steps without words of memory", "-l 2 -w 774 HI.TAP", STORES, 1, "", "8\t001054\tRTS    PC\tSP 001000\n9\t001040\tIOT\tSP 000774\tPSW 000000 ----\nCHANGED AFTER 9 STEPS\n" + NONE.replace("SP 000000 PC 001000", "SP 000774 PC 000000")),
     ("a place", "-p 1024 -f 15 HI.TAP", TAPE, 1, "H\n", LINES[14] + "REACHED AFTER 15 STEPS\n" + AT_HALT),
     ("a place of several", "-p 1024 -p 1010 HI.TAP", TAPE, 1, "", "".join(LINES[:3]) + "REACHED AFTER 3 STEPS\n" + registers("000110", "001027", "001010", "000000")),
     ("a place at the start", "-p 1000 HI.TAP", TAPE, 1, "", "REACHED AFTER 0 STEPS\n" + NONE),
@@ -183,6 +191,15 @@ CHECKS = (
     ("a place before a word changes", "-f 3 -w 1100 -p 1012 HI.TAP", STORES, 1, "", "".join(re.sub("\t@#[0-7]{6} [0-7]{6}", "", line) for line in STORED[:2]) + "REACHED AFTER 2 STEPS\n" + NONE.replace("SP 000000 PC 001000", "SP 001000 PC 001012")),
     ("a word that doesn't change before a stop", "-f 10 -w 1104 HI.TAP", STORES, 0, "", STORED[9] + AT_STORED),
     ("a word past the memory, which never changes", "-k 4096 -n 2 -w 20000 HI.TAP", LOOP, 1, "", "1\t001000\tINC    R0\tR0 000001\n2\t001002\tBR     1000\nLIMIT AFTER 2 STEPS\n" + registers("000001", "000000", "001000", "000000")),
+    ("a word that changes again", "-f 7 -w 1100:2 HI.TAP", STORES, 1, "", STORED[6] + "CHANGED AFTER 7 STEPS\n" + NONE.replace("SP 000000 PC 001000 PSW 000000", "SP 000776 PC 001054 PSW 000004")),
+    ("a word that changes less often", "-f 10 -w 1100:3 HI.TAP", STORES, 0, "", STORED[9] + AT_STORED),
+    ("two words, of which the second changes first", "-f 3 -w 1102 -w 1100 HI.TAP", STORES, 1, "", STORED[2] + "CHANGED 001100 AFTER 3 STEPS\n" + NONE.replace("SP 000000 PC 001000", "SP 001000 PC 001020")),
+    ("two words with counts", "-f 4 -w 1100:2 --watch=1102:1 HI.TAP", STORES, 1, "", STORED[3] + "CHANGED 001102 AFTER 4 STEPS\n" + NONE.replace("SP 000000 PC 001000", "SP 001000 PC 001026")),
+    ("two words that one step changes", "-f 9 -w 776:2 -w 774 HI.TAP", STORES, 1, "", STORED[8] + "CHANGED 000776 AFTER 9 STEPS\n" + NONE.replace("SP 000000 PC 001000", "SP 000774 PC 000000")),
+    ("the same two words in another order", "-f 9 -w 774 -w 776:2 HI.TAP", STORES, 1, "", STORED[8] + "CHANGED 000774 AFTER 9 STEPS\n" + NONE.replace("SP 000000 PC 001000", "SP 000774 PC 000000")),
+    ("one word with two counts", "-f 3 -w 1100:2 -w 1100 HI.TAP", STORES, 1, "", STORED[2] + "CHANGED 001100 AFTER 3 STEPS\n" + NONE.replace("SP 000000 PC 001000", "SP 001000 PC 001020")),
+    ("a word at no change", "-w 1100:0 HI.TAP", TAPE, 2, "", "?M11 USAGE 6 BadCount OF -w 1100:0\n"),
+    ("the second of three words to watch", "-w 1100 -w 1101:2 -w 8 HI.TAP", TAPE, 2, "", "?M11 USAGE 4 OddAddress OF -w 1101:2\n"),
     ("an odd word to watch", "-w 1101 HI.TAP", TAPE, 2, "", "?M11 USAGE 4 OddAddress OF -w 1101\n"),
     ("one word of memory", "-n 1 -f 2 -r 1002 HI.TAP", LOOP, 1, "",
      "1\t001000\tINC    R0\tR0 000001\nLIMIT AFTER 1 STEPS\n" + registers("000001", "000000", "001002", "000000") + "MEMORY 001002:001002\n  001002 000776\n"),
@@ -258,10 +275,24 @@ CHECKS = (
     ("half a tape", "HI.TAP", TAPE[:9], 4, "", "?M11 SIM 2 Truncated\n"),
 )
 
+# Likewise, and then what the file LINES holds; None where it isn't there.
+APART = (
+    ("lines in a file", "-o LINES HI.TAP", TAPE, 0, "H\n", END, "".join(LINES)),
+    ("lines from a step on in a file", "-f 15 --output=LINES HI.TAP", TAPE, 0, "H\n", END, "".join(LINES[14:])),
+    ("the last lines in a file", "-l 2 -o LINES HI.TAP", TAPE, 0, "H\n", END, "".join(LINES[14:])),
+    ("words of memory and a changed word in a file", "-w 1100 -w 1102 -o LINES HI.TAP", STORES, 1, "", "CHANGED 001100 AFTER 3 STEPS\n" + NONE.replace("SP 000000 PC 001000", "SP 001000 PC 001020"), "".join(STORED[:3])),
+    ("parts of memory apart from the lines", "-n 1 -r 1002 -o LINES HI.TAP", LOOP, 1, "", "LIMIT AFTER 1 STEPS\n" + registers("000001", "000000", "001002", "000000") + "MEMORY 001002:001002\n  001002 000776\n", "1\t001000\tINC    R0\tR0 000001\n"),
+    ("half a tape, and a file", "-o LINES HI.TAP", TAPE[:9], 4, "", "?M11 SIM 2 Truncated\n", ""),
+    ("a tape that isn't there, and a file", "-o LINES NONE.TAP", TAPE, 3, "", "?M11 OPEN NONE.TAP\n", None),
+    ("a map that isn't there, and a file", "-y NO.MAP -o LINES HI.TAP", TAPE, 3, "", "?M11 OPEN NO.MAP\n", None),
+    ("a file in a folder that isn't there", "-o NO/LINES HI.TAP", TAPE, 3, "", "?M11 OPEN NO/LINES\n", None),
+    ("a full device", "-o /dev/full HI.TAP", TAPE, 3, "H\n", "?M11 SIM 11 Write LINES\n", None),
+)
+
 
 def main():
     program, failed = os.path.abspath(sys.argv[1]), 0
-    for name, words, tape, *wanted in CHECKS:
+    for name, words, tape, *wanted in CHECKS + APART:
         with tempfile.TemporaryDirectory() as folder:
             with open(os.path.join(folder, "HI.TAP"), "wb") as file:
                 file.write(tape)
@@ -272,16 +303,19 @@ def main():
                     file.write(text)
             given = words.split() if isinstance(words, str) else words
             done = subprocess.run([program, *given], cwd=folder, stdin=subprocess.DEVNULL, capture_output=True, check=False)
-        got = [done.returncode, done.stdout.decode("latin-1"), done.stderr.decode("latin-1")]
+            got = [done.returncode, done.stdout.decode("latin-1"), done.stderr.decode("latin-1")]
+            if len(wanted) > len(got):
+                lines = os.path.join(folder, "LINES")
+                got.append(open(lines, encoding="latin-1", newline="").read() if os.path.exists(lines) else None)
         if got != wanted:
             failed += 1
-            print(f"{name}\n--- is\n{got[0]}\n{got[1]}{got[2]}--- should be\n{wanted[0]}\n{wanted[1]}{wanted[2]}")
+            print(f"{name}\n--- is\n{got[0]}\n{got[1]}{got[2]}{got[3:]}\n--- should be\n{wanted[0]}\n{wanted[1]}{wanted[2]}{wanted[3:]}")
     with open("/dev/full", "wb") as full:
         done = subprocess.run([program, "--help"], stdout=full, stderr=subprocess.PIPE, check=False)
     if (done.returncode, done.stderr) != (0, b""):
         failed += 1
         print(f"help on a full device\n--- is\n{done.returncode}\n{done.stderr.decode()}--- should be\n0")
-    print(f"{len(CHECKS) + 1 - failed} passed, {failed} failed")
+    print(f"{len(CHECKS) + len(APART) + 1 - failed} passed, {failed} failed")
     return 1 if failed else 0
 
 

@@ -2,9 +2,11 @@ pub mod Pieces
 pub mod Following
 pub mod Going
 pub mod Waiting
+pub mod Watching
 pub mod Parts
 pub mod Reports
 pub mod Whole
+pub mod Separate
 pub mod Copies
 pub mod Changed
 pub mod Alike

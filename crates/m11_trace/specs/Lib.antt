@@ -4,6 +4,8 @@ pub mod Lines
 pub mod Taken
 pub mod Messages
 pub mod Stops
+pub mod Watches
 pub mod Ranges
 pub mod Tracing
 pub mod Stepping
+pub mod Apart

@@ -54,7 +54,7 @@ abbrev pub shots_text : List Symbol → ℕ → List Shot → Bytes
 shots_text symbols number [] = []
 shots_text symbols number (shot ∷ earlier) = shots_text symbols (number - 1) earlier ++ short_line symbols number shot
 
--- the trace lines of the last 16 steps, if no step has a number of `first` or more; otherwise nothing
-abbrev pub recent_lines : List Symbol → ℕ → List TracedStep → Bytes
-recent_lines symbols first taken =
-    if nat_lt (length taken) first then shots_text symbols (length taken) (take 16 (map kept taken)) else []
+-- the trace lines of the last `last` steps, if no step has a number of `first` or more; otherwise nothing
+abbrev pub recent_lines : List Symbol → ℕ → ℕ → List TracedStep → Bytes
+recent_lines symbols first last taken =
+    if nat_lt (length taken) first then shots_text symbols (length taken) (take last (map kept taken)) else []

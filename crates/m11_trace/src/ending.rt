@@ -9,6 +9,6 @@ pub enum Ending {
     Stopped(Stop),
     /// At a breakpoint, before the instruction there.
     Reached,
-    /// After a step that changed the watched word.
-    Changed,
+    /// After a step that changed the watched word with this address, the first one if the step stopped the run by several.
+    Changed(u16),
 }

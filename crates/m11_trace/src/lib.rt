@@ -1,5 +1,5 @@
 //! Traced runs of tapes. From a chosen step on, each step has a line: its instruction as a line of source, and what it changed. The
-//! machine, the console and the stop are those of an untraced run, unless a breakpoint or a change of the watched word stops the run
+//! machine, the console and the stop are those of an untraced run, unless a breakpoint or a change of a watched word stops the run
 //! first.
 #![tactic(auto)]
 
@@ -13,12 +13,13 @@ pub use shots::{InstructionWords, Shot, View};
 mod line;
 mod lines;
 
-// Steps with their lines, where they stop, and the last 16, which are shown if no line was written.
+// Steps with their lines, where they stop, and the last of them, which are shown if no line was written.
 mod recent;
 mod steps;
 mod stops;
+mod watches;
 
-pub use stops::{Breakpoint, Stops};
+pub use stops::{CountedAddress, Stops};
 
 // What is reported at the end: why the run ended, and ranges of memory.
 mod ending;
@@ -28,9 +29,11 @@ mod ranges;
 pub use ending::Ending;
 pub use ranges::Range;
 
-// The whole run.
+// The whole run, and the run with its lines apart from what is reported at the end.
+mod apart;
 mod tracing;
 
+pub use apart::{ApartFault, trace_apart};
 pub use tracing::trace_run;
 
 // The law that a line shows each word that changed.

@@ -1,62 +1,81 @@
-//! The last 16 steps of a run.
+//! The last steps of a run.
 
-ghost use Rattle.std.specs.Prelude.{◌≡◌, ◌∷◌, [], nat_lt, if◌then◌else◌, take};
+ghost use Rattle.std.specs.Prelude.{◌≡◌, ◌∷◌, ◌<◌, ◌-◌, [], nat_lt, if◌then◌else◌, Some, length, slice_get, take};
 ghost use Rattle.m11_cpu.specs.Messages.{PutsMessages};
+ghost use Rattle.m11_trace.specs.Lines.{short_line};
 ghost use Rattle.m11_trace.specs.Taken.{shots_text};
 
 use crate::line::put_text;
 use crate::lines::short_line;
 use crate::shots::Shot;
-use arrayvec::ArrayVec;
+use circular_buffer::HeapCircularBuffer;
 use m11_base::Sink;
 use m11_base_disassembly::Symbol;
 use m11_cpu::SimFault;
 
-/// The last steps, at most 16, the latest first.
-pub(crate) type Recent = ArrayVec<Shot, 16>;
+/// The last steps, as many as its capacity at most, the latest first.
+pub(crate) type Recent = HeapCircularBuffer<Shot>;
 
-/// Adds the latest step, in place of the oldest one if there are 16 already.
+/// Adds the latest step, in place of the oldest one if there is no room for one more.
 pub(crate) fn keep(recent: &mut Recent, shot: Shot)
-    ensures { recent.new.items ≡ take 16 (shot ∷ recent.old.items) }
+    ensures items { recent.new.items ≡ take recent.old.capacity (shot ∷ recent.old.items) }
+    ensures capacity { recent.new.capacity ≡ recent.old.capacity }
 {
-    if recent.is_full() {
-        recent.pop();
-    }
-    recent.insert(0, shot);
+    recent.push_front(shot);
 }
 
-// Writes the trace lines of steps, without memory words, in the order in which they were made. The list begins with the latest step,
-// which has this number.
-#[tactic(auto, using(crate::proofs::Reports::puts_then, crate::proofs::Reports::puts_part, crate::proofs::Going::appends_nothing))]
+// The step with this index; the latest has index 0.
+fn shot_at(recent: &Recent, index: usize) -> Shot
+    requires { index < length recent.now.items }
+    ensures { slice_get recent.now.items index ≡ Some result }
+{
+    *recent.get(index).unwrap()
+}
+
+// Writes the trace line, without memory words, of the step that came `earlier` steps before the one with this number.
+fn put_shot<M: Sink>(
+    messages: &mut M,
+    symbols: &[Symbol],
+    number: u32,
+    earlier: usize,
+    shot: &Shot,
+) -> Result<(), SimFault>
+    ensures { PutsMessages (M.text messages.old) (M.text messages.new) (M.faults messages.old) (M.faults messages.new)
+        (short_line symbols.now (number - earlier) shot.now) result }
+{
+    let number = (number as usize).saturating_sub(earlier) as u32;
+    put_text(messages, short_line(symbols, number, shot).as_slice())
+}
+
+// Writes the trace lines of steps, without memory words, in the order in which they were made. The latest has this number.
 fn put_shots<M: Sink>(
     messages: &mut M,
     symbols: &[Symbol],
     number: u32,
-    shots: &[Shot],
+    recent: &Recent,
 ) -> Result<(), SimFault>
     ensures { PutsMessages (M.text messages.old) (M.text messages.new) (M.faults messages.old) (M.faults messages.new)
-        (shots_text symbols.now number shots.now) result }
+        (shots_text symbols.now number recent.now.items) result }
 {
-    match shots {
-        [] => Ok(()),
-        [shot, earlier @ ..] => {
-            put_shots(messages, symbols, number.saturating_sub(1), earlier)?;
-            put_text(messages, short_line(symbols, number, shot).as_slice())
-        }
+    let mut left = recent.len();
+    'shots: while left > 0 {
+        left -= 1;
+        put_shot(messages, symbols, number, left, &shot_at(recent, left))?;
     }
+    Ok(())
 }
 
-/// Writes the trace lines of the last 16 steps, without memory words, if the run has fewer than `first` steps, and so has written no
-/// trace line. Error: `Write`, if the sink failed after part of them.
+/// Writes the trace lines of the last steps, without memory words, if the run has fewer than `first` steps, and so has written no trace
+/// line. Error: `Write`, if the sink failed after part of them.
 pub(crate) fn put_recent<M: Sink>(
     messages: &mut M,
     symbols: &[Symbol],
     first: u32,
     count: u32,
-    recent: &[Shot],
+    recent: &Recent,
 ) -> Result<(), SimFault>
     ensures { PutsMessages (M.text messages.old) (M.text messages.new) (M.faults messages.old) (M.faults messages.new)
-        (if nat_lt count first then shots_text symbols.now count recent.now else []) result }
+        (if nat_lt count first then shots_text symbols.now count recent.now.items else []) result }
 {
     if count < first {
         put_shots(messages, symbols, count, recent)

@@ -1,6 +1,6 @@
 //! Steps with trace lines.
 
-ghost use Rattle.std.specs.Prelude.{◌≡◌, ◌≤◌, ◌+◌, ◌++◌, OnOk, length};
+ghost use Rattle.std.specs.Prelude.{◌≡◌, ◌≤◌, ◌+◌, ◌++◌, [], OnOk, length};
 ghost use Rattle.m11_cpu.specs.Messages.{PutsMessages};
 ghost use Rattle.m11_cpu.specs.Runs.{run_counted};
 ghost use Rattle.m11_cpu_machine.specs.Dialogue.{Does, both, output_of};
@@ -18,20 +18,19 @@ use crate::line::put_text;
 use crate::lines::{line_end, line_front};
 use crate::recent::{Recent, keep};
 use crate::shots::{Shot, counter_of, fetched_at, view_of};
-use crate::stops::{Breakpoint, Stops, count_down, is_due, watched_word};
+use crate::stops::{CountedAddress, Stops, count_down, is_due};
+use crate::watches::{Watch, count_changes, look, stopping_address};
 use m11_base::{Feed, Sink};
 use m11_base_disassembly::Symbol;
 use m11_cpu::{Machine, Memory, SimFault, Stop, Turn};
 
 /// The outcome of traced steps.
-#[derive(Drop)]
+#[derive(Clone, Copy)]
 pub(crate) struct Steps {
     /// Why the steps ended.
     pub ending: Ending,
     /// How many steps were begun.
     pub count: u32,
-    /// What is recorded about the last steps, at most 16, the latest first.
-    pub recent: Recent,
 }
 
 // Makes one step, and records what its trace line shows.
@@ -128,8 +127,8 @@ fn put_line_from<M: Sink>(
 
 /// Makes at most `limit` steps, up to a stop of the machine or one of `stops`, and writes a trace line for each step whose number is
 /// `first` or more, with names from `symbols`. `before` has room for a copy of the memory, which is made before the first step that has
-/// a line and updated with each line. `waiting` has the breakpoints, whose counts are lowered as the program counter reaches them.
-/// Allocates no memory.
+/// a line and updated with each line. `waiting` has the breakpoints, whose counts are lowered as the program counter reaches them;
+/// `watches` has room for the watched words. `recent` then has the last steps. Allocates no memory.
 ///
 /// Error: `Write`, if a line couldn't be written whole. No step is made after that.
 pub(crate) fn steps_with_lines<I: Feed, O: Sink, M: Sink>(
@@ -138,34 +137,36 @@ pub(crate) fn steps_with_lines<I: Feed, O: Sink, M: Sink>(
     symbols: &[Symbol],
     first: u32,
     stops: &Stops,
-    waiting: &mut [Breakpoint],
+    waiting: &mut [CountedAddress],
+    watches: &mut [Watch],
     before: &mut [u16],
+    recent: &mut Recent,
     input: &mut I,
     output: &mut O,
     messages: &mut M,
 ) -> Result<Steps, SimFault>
     requires waiting { waiting.old ≡ stops.now.breakpoints.items }
+    requires room { length watches.old ≡ length stops.now.watched.items }
+    requires none { recent.old.items ≡ [] }
     requires size { length before.old ≡ most_words }
-    ensures { StepsWithLines (λ most. run_counted most machine.old) limit symbols.now first stops.now machine.old machine.new
+    ensures { StepsWithLines (λ most. run_counted most machine.old) limit symbols.now first recent.old.capacity stops.now machine.old machine.new
         (both (I.text input.old) (I.faults input.old) (O.text output.old) (O.faults output.old))
         (both (I.text input.new) (I.faults input.new) (O.text output.new) (O.faults output.new))
         (output_of (M.text messages.old) (M.faults messages.old)) (output_of (M.text messages.new) (M.faults messages.new))
-        result }
+        recent.new.items result }
 {
-    let mut recent = Recent::new();
     let mut count = 0;
+    look(watches, stops.watched.as_slice(), machine.memory());
     'steps: while count < limit {
         let address = counter_of(machine);
         if is_due(waiting, address) {
             return Ok(Steps {
                 ending: Ending::Reached,
                 count,
-                recent,
             });
         }
         count_down(waiting, address);
         ready(first, count, before, machine.memory());
-        let watched = watched_word(stops, machine.memory());
         let (turn, shot) = record_step(machine, input, output);
         count += 1;
         put_line_from(
@@ -177,22 +178,21 @@ pub(crate) fn steps_with_lines<I: Feed, O: Sink, M: Sink>(
             before,
             machine.memory(),
         )?;
-        keep(&mut recent, shot);
+        keep(recent, shot);
         match turn {
             Turn::Next => {
-                if watched_word(stops, machine.memory()) != watched {
+                if let Some(address) = stopping_address(watches, machine.memory()) {
                     return Ok(Steps {
-                        ending: Ending::Changed,
+                        ending: Ending::Changed(address),
                         count,
-                        recent,
                     });
                 }
+                count_changes(watches, machine.memory());
             }
             Turn::Stopped(stop) => {
                 return Ok(Steps {
                     ending: Ending::Stopped(stop),
                     count,
-                    recent,
                 });
             }
         }
@@ -200,6 +200,5 @@ pub(crate) fn steps_with_lines<I: Feed, O: Sink, M: Sink>(
     Ok(Steps {
         ending: Ending::Stopped(Stop::Limit),
         count,
-        recent,
     })
 }

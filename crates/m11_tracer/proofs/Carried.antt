@@ -1,17 +1,25 @@
 -- The outcome of a task.
-use Rattle.std.proofs.Common.{◌≡◌, ℕ, List, Option, Ok, inl, inr, subst}
+use Rattle.std.proofs.Common.{◌≡◌, ◌∙◌, ℕ, true, false, Bool, List, Option, Some, None, Result, Ok, Err, inl, inr, refl, sym, subst, ap}
+use Rattle.std.specs.Borrow.{Bor}
 use Rattle.m11_base.specs.Feed as feed
 use Rattle.clap.specs.Words.{Text}
 use Rattle.m11_base_disassembly.specs.declared.symbols.Symbol.{Symbol}
 use Rattle.m11_link_load_map.specs.NameFiles.{Names}
 use Rattle.m11_link_load_map.specs.declared.name_files.NoNames.{NoNames}
 use Rattle.m11_link_load_map.specs.declared.name_files.NoNames.TheVariants as none
+use Rattle.m11_base_files.specs.Opens.{Holds}
+use Rattle.m11_cpu.specs.declared.fault.SimFault.{SimFault}
+use Rattle.m11_cpu_machine.specs.Dialogue.{Input}
+use Rattle.m11_trace.specs.declared.apart.ApartFault.{ApartFault}
+use Rattle.m11_trace.specs.declared.apart.ApartFault.TheVariants.{Lines, Run}
+use Rattle.m11_trace.specs.declared.ending.Ending.{Ending}
 use Rattle.m11_cli_tasks.specs.Opened.{texts}
-use Rattle.m11_tracer.specs.Driver.{Carries, CarriesNamed, GoesWithout, HasOutcome}
+use Rattle.m11_tracer.specs.Driver.{Carries, CarriesNamed, GoesWithout, HasOutcome, RunsBy, RunsInto, RunsOpen, RunsTape}
+use Rattle.m11_tracer.specs.Outcome.{outcome_apart}
 use Rattle.m11_cli_reports.specs.Streams.{Store, Streams}
 use Rattle.m11_tracer.specs.Task.{Plans}
 use Rattle.m11_tracer.specs.declared.outcome.Outcome.{Outcome}
-use Rattle.m11_tracer.specs.declared.outcome.Outcome.TheVariants.{Usage, Refused, NotOpened, NoSymbols, Ran}
+use Rattle.m11_tracer.specs.declared.outcome.Outcome.TheVariants.{Usage, Refused, NotOpened, NoSymbols, LinesFailed, Ran}
 use Rattle.m11_tracer.specs.declared.task.TraceTask.{TraceTask}
 use Rattle.m11_cli_tasks.specs.declared.usage.UsageFault.{UsageFault}
 
@@ -36,6 +44,59 @@ no_refusal : {I : Type 0} (text : I → Option feed.Text) (faults : I → ℕ) (
 no_refusal text faults task old new before after (inl named) = named.2
 no_refusal text faults task old new before after (inr without) = no_refusal_without without.0 old new before after without.2
 
+-- ---- a task whose tape is open
+
+-- if there is no file for the lines, they are among the reports
+pub runs_unnamed : (task : TraceTask) (symbols : List Symbol) (tape : Input) (old new : Store) (before after : Streams) (result : Result Ending SimFault)
+    → task.lines ≡ None → RunsOpen task symbols tape before after result → new ≡ old
+    → RunsBy task.lines task symbols tape old new before after (Ran result)
+runs_unnamed task symbols tape old new before after result none runs same =
+    let P : Option (Bor (List ℕ)) → Type 0 = λ path. RunsBy path task symbols tape old new before after (Ran result) in
+    subst P (sym none) (result, runs, same, refl)
+
+-- whether an outcome comes before the tape is opened
+abbrev is_early : Outcome → Bool
+is_early (Usage fault) = true
+is_early Refused = true
+is_early NotOpened = false
+is_early (NoSymbols fault) = true
+is_early LinesFailed = false
+is_early (Ran result) = false
+
+apart_is_late : (result : Result Ending ApartFault) → is_early (outcome_apart result) ≡ false
+apart_is_late (Ok ending) = refl
+apart_is_late (Err Lines) = refl
+apart_is_late (Err (Run fault)) = refl
+
+is_late : (task : TraceTask) (path : List ℕ) (symbols : List Symbol) (tape : Input) (old new : Store) (before after : Streams) (outcome : Outcome)
+    → RunsInto task path symbols tape old new before after outcome → is_early outcome ≡ false
+is_late task path symbols tape old new before after outcome (inl runs) = ap is_early runs.4 ∙ apart_is_late runs.1
+is_late task path symbols tape old new before after outcome (inr (inl refused)) = ap is_early refused.0
+is_late task path symbols tape old new before after outcome (inr (inr memory)) = ap is_early memory.0
+
+-- if a tape was opened, which changed no file, and run with its lines in a file, the task was carried out
+module _ (task : TraceTask) (symbols : List Symbol) (tape : Input) (old middle new : Store) (before after : Streams) where
+  runs_tape : (outcome : Outcome) (path : Bor (List ℕ)) → task.lines ≡ Some path → Holds old.files task.sim.tape.now tape.text → middle ≡ old
+      → RunsInto task path.now symbols tape middle new before after outcome → RunsTape task symbols old new before after outcome
+  runs_tape outcome path some holds same runs =
+      let P : Option (Bor (List ℕ)) → Type 0 = λ named. RunsBy named task symbols tape old new before after outcome in
+      let Q : Store → Type 0 = λ s. RunsInto task path.now symbols tape s new before after outcome in
+      (tape, holds, subst P (sym some) (subst Q same runs))
+
+  pub runs_named : (outcome : Outcome) (path : Bor (List ℕ)) → task.lines ≡ Some path → Holds old.files task.sim.tape.now tape.text → middle ≡ old
+      → RunsInto task path.now symbols tape middle new before after outcome → CarriesNamed task symbols outcome old new before after
+  runs_named NotOpened path some holds same runs = inl (runs_tape NotOpened path some holds same runs)
+  runs_named (Ran result) path some holds same runs = inl (runs_tape (Ran result) path some holds same runs)
+  runs_named LinesFailed path some holds same runs = runs_tape LinesFailed path some holds same runs
+  runs_named (Usage fault) path some holds same runs =
+      let no : true ≡ false = is_late task path.now symbols tape middle new before after (Usage fault) runs in absurd cc
+  runs_named Refused path some holds same runs =
+      let no : true ≡ false = is_late task path.now symbols tape middle new before after Refused runs in absurd cc
+  runs_named (NoSymbols fault) path some holds same runs =
+      let no : true ≡ false = is_late task path.now symbols tape middle new before after (NoSymbols fault) runs in absurd cc
+
+-- ---- a task with its names
+
 -- if names were found, and finding them changed no file, the task is carried out with these names
 pub goes_on : {I : Type 0} (text : I → Option feed.Text) (faults : I → ℕ) (task : TraceTask) (symbols : List Symbol) (outcome : Outcome) (old middle new : Store) (before after : Streams)
     → Names text faults task.bottom old.files (texts task.names.items) symbols → middle ≡ old
@@ -50,5 +111,6 @@ pub carried : {I : Type 0} (text : I → Option feed.Text) (faults : I → ℕ) 
 carried text faults words task (Usage fault) old new before after planned h = absurd (no_usage text faults task fault old new before after h)
 carried text faults words task Refused old new before after planned h = absurd (no_refusal text faults task old new before after h)
 carried text faults words task (NoSymbols fault) old new before after planned h = (task, planned, h)
+carried text faults words task LinesFailed old new before after planned h = (task, planned, h)
 carried text faults words task NotOpened old new before after planned h = (task, planned, h)
 carried text faults words task (Ran result) old new before after planned h = (task, planned, h)

@@ -1,57 +1,99 @@
 -- What the program does with the three standard streams and with its files, for a given command line. (This project's own.)
-use Rattle.std.specs.Prelude.{◌≡◌, ◌⊎◌, ℕ, List, Option, Result, Ok, Err}
+use Rattle.std.specs.Prelude.{◌≡◌, ◌⊎◌, ℕ, List, [], ◌∷◌, Option, Some, None, Result, Ok, Err}
+use Rattle.std.specs.Borrow.{Bor}
 use Rattle.clap.specs.Words.{Text}
 use Rattle.m11_base.specs.Devices.{Bytes, Rises}
 use Rattle.m11_base.specs.Feed as feed
+use Rattle.m11_base.specs.Sink.{handed_on}
 use Rattle.m11_cpu.specs.Simulation.{request_of}
 use Rattle.m11_cpu.specs.declared.fault.SimFault.{SimFault}
 use Rattle.m11_cpu.specs.declared.fault.SimFault.TheVariants.{NoMemory}
-use Rattle.m11_base_files.specs.Opens.{Holds, Lacks}
+use Rattle.m11_base_files.specs.Opens.{Holds, IsEmptied, Lacks, creating, keeping}
 use Rattle.m11_base_writes.specs.States.{OutputState}
-use Rattle.m11_cpu_machine.specs.Dialogue.{Input}
+use Rattle.m11_cpu_machine.specs.Dialogue.{Input, Output, output_of}
 use Rattle.m11_base_disassembly.specs.MapFault.{fault_line}
 use Rattle.m11_link_load_map.specs.NameFiles.{Counts, Names, NoneNamed}
 use Rattle.m11_link_load_map.specs.declared.name_files.NoNames.{NoNames}
 use Rattle.m11_link_load_map.specs.declared.name_files.NoNames.TheVariants as none
+use Rattle.m11_trace.specs.Apart.{TracesApart}
 use Rattle.m11_trace.specs.Tracing.{Traces}
+use Rattle.m11_trace.specs.declared.apart.ApartFault.{ApartFault}
 use Rattle.m11_trace.specs.declared.ending.Ending.{Ending}
 use Rattle.m11_base_disassembly.specs.declared.symbols.Symbol.{Symbol}
-use Rattle.m11_tracer.specs.Outcome.{line_of}
+use Rattle.m11_tracer.specs.Outcome.{line_of, outcome_apart}
 use Rattle.m11_cli_reports.specs.Lines.{open_line}
 use Rattle.m11_cli_reports.specs.Refusals.{refused_line, refused_word}
 use Rattle.m11_cli_reports.specs.declared.refusals.RefusedValue.{RefusedValue}
 use Rattle.m11_cli_reports.specs.declared.refusals.Refusal.TheVariants as refusal
 use Rattle.m11_cli_reports.specs.Reports.{Explains, Reports}
-use Rattle.m11_cli_reports.specs.Streams.{Store, Streams, devices_of}
+use Rattle.m11_cli_reports.specs.Streams.{Store, Streams, devices_of, store}
 use Rattle.m11_cli_tasks.specs.Opened.{texts}
 use Rattle.m11_tracer.specs.Task.{Plans}
 use Rattle.m11_tracer.specs.declared.outcome.Outcome.{Outcome}
-use Rattle.m11_tracer.specs.declared.outcome.Outcome.TheVariants.{Usage, Refused, NotOpened, NoSymbols, Ran}
+use Rattle.m11_tracer.specs.declared.outcome.Outcome.TheVariants.{Usage, Refused, NotOpened, NoSymbols, LinesFailed, Ran}
 use Rattle.m11_tracer.specs.declared.task.TraceTask.{TraceTask}
+
+-- what was written to an output, and its failures
+abbrev pub written : OutputState → Output
+written state = output_of state.text state.faults
 
 -- an open tape is run as the task says, with these symbols as the names of addresses
 abbrev pub RunsOpen : TraceTask → List Symbol → Input → Streams → Streams → Result Ending SimFault → Type 0
 RunsOpen task symbols tape before after result = (tape' : Input)
-    × Traces (request_of task.sim.start task.sim.words task.sim.limit) symbols task.from task.stops task.ranges.items
+    × Traces (request_of task.sim.start task.sim.words task.sim.limit) symbols task.from task.last task.stops task.ranges.items
     (devices_of tape before) (devices_of tape' after) result
 
--- the file at the task's path is run as its tape, and the files stay as they were
-abbrev pub RunsTape : TraceTask → List Symbol → Store → Store → Streams → Streams → Result Ending SimFault → Type 0
-RunsTape task symbols old new before after result = (tape : Input) × Holds old.files task.sim.tape.now tape.text
-    × RunsOpen task symbols tape before after result × (new ≡ old)
+-- an open tape is run as the task says, and its lines go to the file at this path, which has been created with this output: the bytes that
+-- the output received become the contents of the file
+abbrev pub RunsApart : TraceTask → Bytes → List Symbol → Input → OutputState → Store → Store → Streams → Streams → Result Ending ApartFault
+    → Type 0
+RunsApart task path symbols tape lines old new before after result = (tape' : Input) × (lines' : OutputState)
+    × TracesApart (request_of task.sim.start task.sim.words task.sim.limit) symbols task.from task.last task.stops task.ranges.items
+    (devices_of tape before) (devices_of tape' after) (written lines) (written lines') lines'.held result
+    × (new ≡ store (keeping path (handed_on lines'.text lines'.held) old.files) old.refusals)
+
+-- the file for the lines can't be created, and that is reported
+abbrev pub RefusesLines : Bytes → Store → Store → OutputState → OutputState → Type 0
+RefusesLines path old new reported reported' =
+    Rises old.refusals new.refusals × (new.files ≡ old.files) × Reports (open_line path) reported reported'
+
+-- an open tape is run as the task says, with its lines in a file at this path, which is created empty; or the file can't be created; or memory
+-- is refused before the run
+abbrev pub RunsInto : TraceTask → Bytes → List Symbol → Input → Store → Store → Streams → Streams → Outcome → Type 0
+RunsInto task path symbols tape old new before after outcome =
+    ((lines : OutputState) × (result : Result Ending ApartFault) × IsEmptied old.files lines.text
+    × RunsApart task path symbols tape lines (store (creating (path ∷ []) old.files) old.refusals) new before after result
+    × (outcome ≡ outcome_apart result))
+    ⊎ (((outcome ≡ NotOpened) × (after.input ≡ before.input) × (after.printed ≡ before.printed)
+    × RefusesLines path old new before.reported after.reported)
+    ⊎ ((outcome ≡ Ran (Err NoMemory)) × (after ≡ before) × (new ≡ old)))
+
+-- an open tape is run as the task says: with its lines among the reports, and the files stay as they were; or with its lines in a file
+abbrev pub RunsBy : Option (Bor Bytes) → TraceTask → List Symbol → Input → Store → Store → Streams → Streams → Outcome → Type 0
+RunsBy None task symbols tape old new before after outcome = (result : Result Ending SimFault)
+    × RunsOpen task symbols tape before after result × (new ≡ old) × (outcome ≡ Ran result)
+RunsBy (Some path) task symbols tape old new before after outcome =
+    RunsInto task path.now symbols tape old new before after outcome
+
+-- the file at the task's path is run as its tape
+abbrev pub RunsTape : TraceTask → List Symbol → Store → Store → Streams → Streams → Outcome → Type 0
+RunsTape task symbols old new before after outcome = (tape : Input) × Holds old.files task.sim.tape.now tape.text
+    × RunsBy task.lines task symbols tape old new before after outcome
 
 -- the file at this path can't be opened, and that is reported
 abbrev pub RefusesFile : Bytes → Store → Store → OutputState → OutputState → Type 0
 RefusesFile path old new reported reported' = Lacks old.files path × Rises old.refusals new.refusals
     × (new.files ≡ old.files) × Reports (open_line path) reported reported'
 
--- the outcome of a task with these symbols as the names of addresses: the tape can't be opened; or it is run; or memory is refused
--- before the run
+-- the outcome of a task with these symbols as the names of addresses: the tape can't be opened; or it is run, unless the file for its lines
+-- can't be created; or memory is refused before the run
 abbrev pub CarriesNamed : TraceTask → List Symbol → Outcome → Store → Store → Streams → Streams → Type 0
-CarriesNamed task symbols NotOpened old new before after = (after.input ≡ before.input) × (after.printed ≡ before.printed)
-    × RefusesFile task.sim.tape.now old new before.reported after.reported
-CarriesNamed task symbols (Ran result) old new before after = RunsTape task symbols old new before after result
+CarriesNamed task symbols NotOpened old new before after = RunsTape task symbols old new before after NotOpened
+    ⊎ ((after.input ≡ before.input) × (after.printed ≡ before.printed)
+    × RefusesFile task.sim.tape.now old new before.reported after.reported)
+CarriesNamed task symbols (Ran result) old new before after = RunsTape task symbols old new before after (Ran result)
     ⊎ ((result ≡ Err NoMemory) × (after ≡ before) × (new ≡ old))
+CarriesNamed task symbols LinesFailed old new before after = RunsTape task symbols old new before after LinesFailed
 CarriesNamed task symbols (NoSymbols fault) old new before after = ⊥
 CarriesNamed task symbols (Usage fault) old new before after = ⊥
 CarriesNamed task symbols Refused old new before after = ⊥

@@ -2,7 +2,7 @@
 
 ghost use Rattle.std.specs.Prelude.{IfOk};
 ghost use Rattle.m11_cli_tasks.specs.Commands.{IsArgument, IsCommand, bottom_rule};
-ghost use Rattle.m11_tracer.specs.Application.{application, from_rule, breakpoint_rule, range_rule, symbols_rule, watch_rule};
+ghost use Rattle.m11_tracer.specs.Application.{application, breakpoint_rule, from_rule, last_rule, lines_rule, range_rule, symbols_rule, watch_rule};
 
 use clap::{Arg, ArgAction, Command, value_parser};
 use m11_cli_tasks::{
@@ -11,8 +11,8 @@ use m11_cli_tasks::{
 };
 use std::alloc::{AllocError, Global};
 
-/// The command line `m11-trace [-n STEPS] [-s OCTAL] [-k WORDS] [-f FROM] [-p OCTAL[:COUNT]]... [-w OCTAL] [-r FIRST[:LAST]]... [-y
-/// NAMES]... [-b OCTAL] TAPE`. Error: memory was refused.
+/// The command line `m11-trace [-n STEPS] [-s OCTAL] [-k WORDS] [-f FROM] [-l LAST] [-o FILE]
+/// [-p OCTAL[:COUNT]]... [-w OCTAL[:COUNT]]... [-r FIRST[:LAST]]... [-y NAMES]... [-b OCTAL] TAPE`. Error: memory was refused.
 pub(crate) fn application_command<'a>(alloc: Global) -> Result<Command<'a>, AllocError>
     ensures { IfOk result (IsCommand application) }
 {
@@ -22,6 +22,8 @@ pub(crate) fn application_command<'a>(alloc: Global) -> Result<Command<'a>, Allo
     let command = with_argument(command, start_argument(alloc));
     let command = with_argument(command, words_argument(alloc));
     let command = with_argument(command, from_argument(alloc));
+    let command = with_argument(command, last_argument(alloc));
+    let command = with_argument(command, lines_argument(alloc));
     let command = with_argument(command, breakpoint_argument(alloc));
     let command = with_argument(command, watch_argument(alloc));
     let command = with_argument(command, range_argument(alloc));
@@ -39,6 +41,28 @@ fn from_argument<'a>(alloc: Global) -> Arg<'a>
     option_argument(alloc, "from", 'f', "FROM", help).value_parser(bounds)
 }
 
+// `-l LAST`. The parser reads it in decimal, and refuses any number outside 1 to 65,535.
+fn last_argument<'a>(alloc: Global) -> Arg<'a>
+    ensures { IsArgument last_rule result }
+{
+    let help = "Show only the last LAST steps, in decimal: 1 to 65535; -f then has no effect";
+    let bounds = value_parser!(u32).range(1..=65_535);
+    option_argument(alloc, "last", 'l', "LAST", help).value_parser(bounds)
+}
+
+// `-o FILE`. Without it the lines of the steps go to standard error.
+fn lines_argument<'a>(alloc: Global) -> Arg<'a>
+    ensures { IsArgument lines_rule result }
+{
+    option_argument(
+        alloc,
+        "output",
+        'o',
+        "FILE",
+        "The file to write the lines of the steps to",
+    )
+}
+
 // `-p OCTAL[:COUNT]`, any number of times. The parser accepts any text. Addresses and counts are checked once the parser has accepted all
 // words, so a fault of the words is reported first.
 fn breakpoint_argument<'a>(alloc: Global) -> Arg<'a>
@@ -48,12 +72,12 @@ fn breakpoint_argument<'a>(alloc: Global) -> Arg<'a>
     option_argument(alloc, "place", 'p', "OCTAL[:COUNT]", help).action(ArgAction::Append)
 }
 
-// `-w OCTAL`, for which the parser accepts any text, as for `-p`.
+// `-w OCTAL[:COUNT]`, any number of times. The parser accepts any text, as for `-p`.
 fn watch_argument<'a>(alloc: Global) -> Arg<'a>
     ensures { IsArgument watch_rule result }
 {
-    let help = "A word to stop at, after the step that changes it: an address as of -p";
-    option_argument(alloc, "watch", 'w', "OCTAL", help)
+    let help = "A word to stop at, after the COUNTth step that changes it: an address as of -p";
+    option_argument(alloc, "watch", 'w', "OCTAL[:COUNT]", help).action(ArgAction::Append)
 }
 
 // `-r FIRST[:LAST]`, any number of times. The parser accepts any text, as for `-p`.

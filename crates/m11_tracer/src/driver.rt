@@ -7,11 +7,11 @@ ghost use Rattle.m11_cli_reports.specs.Reports.{Reports};
 ghost use Rattle.m11_cli_reports.specs.Streams.{store, streams};
 ghost use Rattle.m11_cli_tasks.specs.Tasks.{IsDoable};
 ghost use Rattle.m11_cli_tasks.specs.declared.tasks.Task.TheVariants.{Sim};
-ghost use Rattle.m11_tracer.specs.Driver.{Carries, CarriesNamed, HasOutcome, Obeys, RefusesNames, RunsOpen};
+ghost use Rattle.m11_tracer.specs.Driver.{Carries, CarriesNamed, HasOutcome, Obeys, RefusesNames, RunsApart, RunsInto, RunsOpen};
 ghost use Rattle.m11_tracer.specs.Outcome.{line_of, status_of};
 ghost use Rattle.m11_tracer.specs.declared.outcome.Outcome.{Outcome};
 
-use crate::outcome::{Outcome, line, status};
+use crate::outcome::{Outcome, line, outcome_apart, status};
 use crate::reports::report_no_names;
 use crate::task::{TraceTask, plan};
 use m11_base::{Feed, Sink};
@@ -20,14 +20,14 @@ use m11_base_files::{OpenRefusal, Opens};
 use m11_cli_reports::{Refusal, explain, report, report_not_opened, report_refused};
 use m11_cpu::SimFault;
 use m11_link_load_map::{NoNames, read_names};
-use m11_trace::{Ending, trace_run};
+use m11_trace::{ApartFault, Ending, trace_apart, trace_run};
 use std::alloc::Global;
 use std::convert::AsStr;
 
 /// Carries out the command line `words`, whose first word is the program's name, and returns the exit status.
 ///
-/// Help goes to `out`. A refused command line, a file that can't be opened or gives no names, the trace of the run and the line for
-/// a fault go to `err`. The program on the tape reads `input`, and prints to `out` one byte at a time.
+/// Help goes to `out`. A refused command line, a file that can't be opened or created or gives no names, the trace of the run and the
+/// line for a fault go to `err`; but the trace lines go to their file, if the command line has one. The program on the tape reads `input`, and prints to `out` one byte at a time.
 pub(crate) fn command<'a, F, I, O, E, S>(
     alloc: Global,
     files: &mut F,
@@ -164,13 +164,100 @@ where
         (streams I.Feed O.Sink E.Sink input.new out.new err.new) }
 {
     match files.open(task.sim.tape) {
-        Ok(tape) => Outcome::Ran(run_tape(alloc, tape, input, out, err, task, symbols)),
+        Ok(tape) => match task.lines {
+            None => Outcome::Ran(run_tape(alloc, tape, input, out, err, task, symbols)),
+            Some(path) => run_into(alloc, files, tape, path, input, out, err, task, symbols),
+        },
         Err(OpenRefusal::NotOpened) => {
             report_not_opened(task.sim.tape, err);
             Outcome::NotOpened
         }
         Err(OpenRefusal::NoMemory) => Outcome::Ran(Err(SimFault::NoMemory)),
     }
+}
+
+// Creates the file for the trace lines and runs an open tape. If the file can't be created, that is reported; if memory is refused for
+// it, the result is `NoMemory`. In both cases nothing is run.
+fn run_into<F, I, O, E>(
+    alloc: Global,
+    files: &mut F,
+    tape: F::Input,
+    path: &str,
+    input: &mut I,
+    out: &mut O,
+    err: &mut E,
+    task: &TraceTask<'_>,
+    symbols: &[Symbol],
+) -> Outcome
+where
+    F: Opens,
+    I: Feed,
+    O: Sink,
+    E: Sink,
+    requires { IsDoable (Sim task.now.sim) }
+    ensures { RunsInto task.now path.now symbols.now (input_of (F.Input.text tape) (F.Input.faults tape))
+        (store (F.files files.old) (F.refusals files.old)) (store (F.files files.new) (F.refusals files.new))
+        (streams I.Feed O.Sink E.Sink input.old out.old err.old)
+        (streams I.Feed O.Sink E.Sink input.new out.new err.new) result }
+{
+    match files.create(path) {
+        Ok(lines) => outcome_apart(run_apart(
+            alloc, files, tape, path, lines, input, out, err, task, symbols,
+        )),
+        Err(OpenRefusal::NotOpened) => {
+            report_not_opened(path, err);
+            Outcome::NotOpened
+        }
+        Err(OpenRefusal::NoMemory) => Outcome::Ran(Err(SimFault::NoMemory)),
+    }
+}
+
+// Runs an open tape with its trace lines in the file at `path`, which has been created, and hands that file back.
+fn run_apart<F, I, O, E>(
+    alloc: Global,
+    files: &mut F,
+    tape: F::Input,
+    path: &str,
+    lines: F::Output,
+    input: &mut I,
+    out: &mut O,
+    err: &mut E,
+    task: &TraceTask<'_>,
+    symbols: &[Symbol],
+) -> Result<Ending, ApartFault>
+where
+    F: Opens,
+    I: Feed,
+    O: Sink,
+    E: Sink,
+    requires { IsDoable (Sim task.now.sim) }
+    ensures { RunsApart task.now path.now symbols.now (input_of (F.Input.text tape) (F.Input.faults tape))
+        (output_of F.Output.Sink lines)
+        (store (F.files files.old) (F.refusals files.old)) (store (F.files files.new) (F.refusals files.new))
+        (streams I.Feed O.Sink E.Sink input.old out.old err.old)
+        (streams I.Feed O.Sink E.Sink input.new out.new err.new) result }
+{
+    let mut tape = tape;
+    let mut lines = lines;
+    let sim = &task.sim;
+    let returned = trace_apart(
+        alloc,
+        &mut tape,
+        sim.start,
+        sim.words,
+        sim.limit,
+        symbols,
+        task.from,
+        task.last,
+        &task.stops,
+        task.ranges.as_slice(),
+        input,
+        out,
+        &mut lines,
+        err,
+    );
+    files.keep(path, lines);
+    returned
 }
 
 // Runs an open tape. The program on it prints to `out` one byte at a time; the trace goes to `err`.
@@ -198,6 +285,7 @@ fn run_tape<T: Feed + Drop, I: Feed, O: Sink, E: Sink>(
         sim.limit,
         symbols,
         task.from,
+        task.last,
         &task.stops,
         task.ranges.as_slice(),
         input,

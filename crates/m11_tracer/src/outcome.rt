@@ -7,7 +7,7 @@ use m11_base_disassembly::MapFault;
 use m11_cli_reports::{sim_line, sim_status, stop_status, usage_line, usage_status};
 use m11_cli_tasks::UsageFault;
 use m11_cpu::SimFault;
-use m11_trace::Ending;
+use m11_trace::{ApartFault, Ending};
 
 /// The outcome of a command line.
 #[derive(Drop)]
@@ -16,22 +16,24 @@ pub enum Outcome {
     Usage(UsageFault),
     /// A value of the command line was refused, which was reported, so nothing ran.
     Refused,
-    /// A file of names or the tape couldn't be opened, so nothing ran.
+    /// A file of names or the tape couldn't be opened, or the file for the trace lines couldn't be created, so nothing ran.
     NotOpened,
     /// A file gave no names for addresses, with this fault, so nothing ran.
     NoSymbols(MapFault),
-    /// The result of the run; or `NoMemory` if memory was refused while opening the tape.
+    /// The trace lines couldn't be written whole to their file.
+    LinesFailed,
+    /// The result of the run; or `NoMemory` if memory was refused while opening the tape or creating the file for the trace lines.
     Ran(Result<Ending, SimFault>),
 }
 
-// The exit status for an ending: that of its stop; or 1, as at the limit, for a breakpoint or a change of the watched word.
+// The exit status for an ending: that of its stop; or 1, as at the limit, for a breakpoint or a change of a watched word.
 fn ending_status(ending: Ending) -> u8
     ensures { result ≡ spec.ending_status ending }
 {
     match ending {
         Ending::Stopped(stop) => stop_status(stop),
         Ending::Reached => 1,
-        Ending::Changed => 1,
+        Ending::Changed(_) => 1,
     }
 }
 
@@ -56,18 +58,32 @@ pub(crate) fn status(outcome: &Outcome) -> u8
         Outcome::Usage(fault) => usage_status(fault),
         Outcome::Refused => 2,
         Outcome::NotOpened => 3,
+        Outcome::LinesFailed => 3,
         Outcome::NoSymbols(fault) => map_status(*fault),
         Outcome::Ran(Ok(ending)) => ending_status(*ending),
         Outcome::Ran(Err(fault)) => sim_status(*fault),
     }
 }
 
+/// The outcome of a run whose trace lines have a file of their own.
+pub(crate) fn outcome_apart(returned: Result<Ending, ApartFault>) -> Outcome
+    ensures { result ≡ spec.outcome_apart returned }
+{
+    match returned {
+        Ok(ending) => Outcome::Ran(Ok(ending)),
+        Err(ApartFault::Lines) => Outcome::LinesFailed,
+        Err(ApartFault::Run(fault)) => Outcome::Ran(Err(fault)),
+    }
+}
+
 /// The line for an outcome's fault; empty if there is no fault, or if it has been reported already.
+#[tactic(auto, unfolding(m11_cli_reports::proofs::Decimals::decimals))]
 pub(crate) fn line(outcome: &Outcome) -> &'static str
     ensures { result.now ≡ spec.line_of outcome.now }
 {
     match outcome {
         Outcome::Usage(fault) => usage_line(fault),
+        Outcome::LinesFailed => "?M11 SIM 11 Write LINES\n",
         Outcome::Ran(Err(fault)) => sim_line(*fault),
         Outcome::Ran(Ok(_)) | Outcome::Refused | Outcome::NotOpened | Outcome::NoSymbols(_) => "",
     }

@@ -1,13 +1,13 @@
 //! What a command line asks for.
 
-ghost use Rattle.std.specs.Prelude.{◌≡◌, IfOk, codes, map, option_map};
+ghost use Rattle.std.specs.Prelude.{◌≡◌, IfOk, map, option_map};
 ghost use Rattle.std.specs.List.{before_first};
-ghost use Rattle.clap.specs.Words.{first_of, found_of, rows_of};
+ghost use Rattle.clap.specs.Words.{found_of, rows_of};
 ghost use Rattle.m11_cli_tasks.specs.Opened.{texts};
 ghost use Rattle.m11_cli_reports.specs.Refusals.{of_words};
-ghost use Rattle.m11_cli_tasks.specs.Tasks.{IsDoable, start_of};
+ghost use Rattle.m11_cli_tasks.specs.Tasks.{IsDoable};
 ghost use Rattle.m11_cli_tasks.specs.declared.tasks.Task.TheVariants.{Sim};
-ghost use Rattle.m11_tracer.specs.Task.{AddsBreakpoints, AddsRanges, EntriesHaveResult, Plans, after_colon, breakpoint_of, is_colon};
+ghost use Rattle.m11_tracer.specs.Task.{AddsCounted, AddsRanges, EntriesHaveResult, Plans, after_colon, counted_of, first_shown, is_colon, last_shown};
 ghost use Rattle.m11_tracer.specs.Task.{range_of};
 
 use crate::application::application_command;
@@ -15,8 +15,9 @@ use clap::ArgMatches;
 use m11_cli_reports::{AddressOption, Refusal, reading, single_reading};
 use m11_cli_tasks::{
     SimTask, UsageFault, address, all_texts, bottom_option, count, number_option, sim_task,
+    text_argument,
 };
-use m11_trace::{Breakpoint, Range, Stops};
+use m11_trace::{CountedAddress, Range, Stops};
 use std::alloc::Global;
 use std::convert::AsStr;
 
@@ -25,9 +26,14 @@ use std::convert::AsStr;
 pub struct TraceTask<'a> {
     /// The run itself, as for `m11 sim`.
     pub sim: SimTask<'a>,
-    /// The number of the first step that has a trace line, at most 1,000,000,000. 0 is the same as 1, the first step of the run.
+    /// The number of the first step that has a trace line, at most 1,000,000,000. 0 is the same as 1, the first step of the run. If only the
+    /// last steps are asked for, it is 1,000,000,001, which no run reaches.
     pub from: u32,
-    /// The breakpoints and the word to watch, with even addresses up to octal 157776; the count of a breakpoint is 1 to 1,000,000,000.
+    /// How many of the last steps are shown if no step has a trace line before.
+    pub last: u16,
+    /// The path of the file for the trace lines; None writes them to standard error.
+    pub lines: Option<&'a str>,
+    /// The breakpoints and the words to watch, with even addresses up to octal 157776 and counts of 1 to 1,000,000,000.
     pub stops: Stops,
     /// The memory ranges to show at the end, with even addresses up to octal 157776.
     pub ranges: Vec<Range>,
@@ -40,11 +46,16 @@ pub struct TraceTask<'a> {
 /// The highest step number that `-f` accepts.
 const MOST_STEPS: u32 = 1_000_000_000;
 
+/// The most steps that `-l` accepts, and how many are shown without it.
+const MOST_LAST: u32 = 65_535;
+
+const DEFAULT_LAST: u32 = 16;
+
 /// Reads a command line, whose first word is the program's name.
 ///
 /// Errors, in this order: `Help` or `Words`, if a word asks for help or the parser refuses the words, whichever it meets first;
-/// the value of the start, if it is bad; the first bad value of a breakpoint, for its address or else for its count; the word to watch;
-/// the first bad value of a memory range; the bottom. `NoMemory` at any point, if memory is refused.
+/// the value of the start, if it is bad; the first bad value of a breakpoint, for its address or else for its count; that of a word to
+/// watch; the first bad value of a memory range; the bottom. `NoMemory` at any point, if memory is refused.
 pub(crate) fn plan<'a, S: AsStr>(
     alloc: Global,
     words: &'a [S],
@@ -65,15 +76,12 @@ fn parsed_task<'a>(alloc: Global, entries: &ArgMatches<'a>) -> Result<TraceTask<
     ensures doable { IfOk result (λ task. IsDoable (Sim task.sim)) }
 {
     let sim = single_reading(entries, AddressOption::Start, "start", sim_task(entries))?;
-    let named = all_texts(alloc, entries, "place")?;
+    let places = all_texts(alloc, entries, "place")?;
     let mut breakpoints = Vec::new(alloc);
-    add_breakpoints(&mut breakpoints, named.as_slice())?;
-    let watched = single_reading(
-        entries,
-        AddressOption::Watch,
-        "watch",
-        watch_option(entries),
-    )?;
+    add_counted(&mut breakpoints, AddressOption::Place, places.as_slice())?;
+    let words = all_texts(alloc, entries, "watch")?;
+    let mut watched = Vec::new(alloc);
+    add_counted(&mut watched, AddressOption::Watch, words.as_slice())?;
     let parts = all_texts(alloc, entries, "range")?;
     let mut ranges = Vec::new(alloc);
     add_ranges(&mut ranges, parts.as_slice())?;
@@ -86,7 +94,9 @@ fn parsed_task<'a>(alloc: Global, entries: &ArgMatches<'a>) -> Result<TraceTask<
     )?;
     Ok(TraceTask {
         sim,
-        from: number_option(entries, "from", 0, MOST_STEPS, 0),
+        from: first_shown(entries),
+        last: last_shown(entries),
+        lines: text_argument(entries, "output"),
         stops: Stops {
             breakpoints,
             watched,
@@ -97,29 +107,37 @@ fn parsed_task<'a>(alloc: Global, entries: &ArgMatches<'a>) -> Result<TraceTask<
     })
 }
 
-// The address of the word to watch, if there is one. Error: the fault of that address.
-#[tactic(auto, using(m11_cli_tasks::proofs::Entries::first_entry_value))]
-fn watch_option(entries: &ArgMatches<'_>) -> Result<Option<u16>, UsageFault>
-    ensures { result ≡ start_of (first_of (codes "watch") (rows_of (found_of entries.now))) }
+// The number of the first step that has a trace line; one more than any run has, if only the last steps are asked for.
+fn first_shown(entries: &ArgMatches<'_>) -> u32
+    ensures { result ≡ first_shown (rows_of (found_of entries.now)) }
 {
-    match entries.get_str("watch") {
-        Some(text) => Ok(Some(address(text)?)),
-        None => Ok(None),
+    if number_option(entries, "last", 1, MOST_LAST, 0) == 0 {
+        number_option(entries, "from", 0, MOST_STEPS, 0)
+    } else {
+        MOST_STEPS + 1
     }
 }
 
-// Adds the breakpoints that these texts spell. Errors: the first text that spells none, or `NoMemory`.
-fn add_breakpoints<'a>(
-    breakpoints: &mut Vec<Breakpoint>,
+// How many of the last steps are shown if no step has a trace line before.
+fn last_shown(entries: &ArgMatches<'_>) -> u16
+    ensures { result ≡ last_shown (rows_of (found_of entries.now)) }
+{
+    number_option(entries, "last", 1, MOST_LAST, DEFAULT_LAST) as u16
+}
+
+// Adds the addresses with counts that these texts of an option spell. Errors: the first text that spells none, or `NoMemory`.
+fn add_counted<'a>(
+    counted: &mut Vec<CountedAddress>,
+    option: AddressOption,
     named: &[&'a str],
 ) -> Result<(), Refusal<'a>>
-    ensures { AddsBreakpoints (texts named.now) breakpoints.old.items breakpoints.new.items result }
+    ensures { AddsCounted option (texts named.now) counted.old.items counted.new.items result }
 {
     match named {
         [] => Ok(()),
         [text, others @ ..] => {
-            breakpoints.push(reading(AddressOption::Place, *text, breakpoint_of(*text))?)?;
-            add_breakpoints(breakpoints, others)
+            counted.push(reading(option, *text, counted_of(*text))?)?;
+            add_counted(counted, option, others)
         }
     }
 }
@@ -148,18 +166,18 @@ fn parts_of(text: &str) -> (&str, Option<&str>)
     }
 }
 
-// The breakpoint that a text OCTAL or OCTAL:COUNT spells; OCTAL alone has the count 1. Error: the fault of the address or count.
-fn breakpoint_of(text: &str) -> Result<Breakpoint, UsageFault>
-    ensures { result ≡ breakpoint_of text.now }
+// The address with a count that a text OCTAL or OCTAL:COUNT spells; OCTAL alone has the count 1. Error: the fault of the address or count.
+fn counted_of(text: &str) -> Result<CountedAddress, UsageFault>
+    ensures { result ≡ counted_of text.now }
 {
     let (first, second) = parts_of(text);
     let address = address(first)?;
     match second {
-        Some(times) => Ok(Breakpoint {
+        Some(times) => Ok(CountedAddress {
             address,
             count: count(times)?,
         }),
-        None => Ok(Breakpoint { address, count: 1 }),
+        None => Ok(CountedAddress { address, count: 1 }),
     }
 }
 

@@ -8,13 +8,13 @@ use Rattle.m11_trace.proofs.tracing.started.Goals as goal
 pub returns-then-address-eq1 : goal.returns-then-address-eq1
 returns-then-address-eq1 g c =
     let odd : (c.args.address % 2 == 1) ≡ true = grind (arith, common_steps) in
-    nothing_started c.args.address c.args.limit c.args.symbols.now c.args.first c.args.stops.now c.args.machine.now _ _
-    (record { ending = _; count = 0; recent = c.new.result }) odd refl refl c.new.ensures
+    nothing_started c.args.address c.args.limit c.args.symbols.now c.args.first c.args.recent.now.capacity c.args.stops.now c.args.machine.now _ _ _
+    (record { ending = _; count = 0 }) odd refl refl c.requires.none
 
 pub returns : goal.returns
 returns g c =
     let even : (c.args.address % 2 == 1) ≡ false = grind (arith, common_steps) in
-    steps_started c.args.address c.args.limit c.args.stops.now c.args.machine.now _ _ _ even c.args.symbols.now c.args.first _
+    steps_started c.args.address c.args.limit c.args.stops.now c.args.machine.now _ _ _ even c.args.symbols.now c.args.first c.args.recent.now.capacity _
     (output_of (g.M.Sink.text c.args.messages.now) (g.M.Sink.faults c.args.messages.now))
-    (output_of (g.M.Sink.text c.steps_with_lines.new.messages) (g.M.Sink.faults c.steps_with_lines.new.messages)) _
+    (output_of (g.M.Sink.text c.steps_with_lines.new.messages) (g.M.Sink.faults c.steps_with_lines.new.messages)) _ _
     c.start_at.ensures c.steps_with_lines.ensures
