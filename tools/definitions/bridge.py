@@ -1,13 +1,12 @@
 """From the words of a command to the definitions, and back to files and lines: what `asm`, `link` and `sim` say of a command whose devices don't fail.
 
-Three relations of the definitions are read here by hand as functions: each has one constructor that fits in each state. What else is computed is
+Two relations of the definitions are read here by hand as functions: each has one constructor that fits in each state. What else is computed is
 written from the definitions."""
-import functools
 import os
 
 from names import Meaning
 from reader import Fault
-from runtime import NIL, Record, Value, append, drop, forget, items, length, of_items, single, take
+from runtime import NIL, Record, Value, append, forget, items, length, of_items, single
 from writer import Program
 
 ASM = """m11_asm.Written.program_writes m11_asm.Written.written m11_asm.Written.flagged_count m11_asm.Program.program_of m11_asm_passes.Lines.givens
@@ -17,9 +16,8 @@ ASM = """m11_asm.Written.program_writes m11_asm.Written.written m11_asm.Written.
     m11_asm_faults.Faults.of_lines m11_asm_rules.Meanings.empty_map m11_asm_lines.Counting.none_used"""
 LINK = """m11_obj_blocks.Blocks.first_block m11_obj_blocks.Limited.most_bytes m11_link.Objects.outcome m11_link_text.Findings.findings_of
     m11_link.Written.link_writes m11_link.Written.counted m11_cli_tasks.Commands.default_bottom"""
-SIM = """m11_obj_blocks.Tapes.first_part m11_obj_blocks.Tapes.next_part m11_obj_blocks.Tapes.total_of m11_obj_blocks.Limited.most_bytes
-    m11_cpu_machine.Machine.new_machine m11_cpu.Loading.stored m11_cpu.Simulation.started m11_cpu.Simulation.text_at_stop
-    m11_cli_tasks.Commands.default_steps m11_cli_tasks.Commands.most_words"""
+SIM = """m11_cpu_laws.LoadedTapes.tape_load m11_cpu_machine.Machine.new_machine m11_cpu.Loading.stored m11_cpu.Simulation.started
+    m11_cpu.Simulation.text_at_stop m11_cli_tasks.Commands.default_steps m11_cli_tasks.Commands.most_words"""
 ALL = "m11_cli.FaultLines.line_of m11_cli.Outcome.status_of m11_cli_reports.Lines.open_line"
 
 
@@ -161,21 +159,9 @@ def link(definitions, options, texts):
 # ---- sim
 
 def load(definitions, data, size):
-    """`LoadsTape`, `StopsAtPart` and `InsideData` of m11_cpu/specs/Loading.antt: the blocks and the start of a tape, or the fault of its load."""
-    most, blocks, read = definitions.most_bytes(), [], definitions.first_part
-    rest = of_items(list(data[:most]))
-    while (part := read(rest)).tag == "Ok":
-        part, rest = part.parts[0]
-        if part.tag == "Start":
-            return (of_items(blocks), part.parts[0]), None
-        address, count = part.parts
-        if address + min(count, length(rest)) > size:
-            return None, Value("OutsideMemory")
-        blocks.append((address, take(count, rest)))
-        read, rest = functools.partial(definitions.next_part, definitions.total_of(*blocks[-1])), drop(count, rest)
-    stop = part.parts[0]
-    missing = "TooMuch" if len(data) > most else "NoTransfer" if stop.tag == "Between" else "Truncated"
-    return None, Value("Tape", (stop.parts[0] if stop.tag == "Refused" else Value(missing),))
+    """The blocks and the start of a tape, or the fault of its load into a memory of this size."""
+    found = definitions.tape_load(size, of_items(list(data)))
+    return ((found.blocks, found.result.parts[0]), None) if found.result.tag == "Ok" else (None, found.result.parts[0])
 
 
 def play(dialogue, ask, send):

@@ -40,3 +40,7 @@ pub mod LoadsYield
 pub mod OneByteTwice
 pub mod Readings
 pub mod TwoSizes
+pub mod ReadFronts
+pub mod LoadsDecided
+pub mod LoadsSettled
+pub mod LoadsMet

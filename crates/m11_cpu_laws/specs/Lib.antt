@@ -16,4 +16,5 @@ pub mod Writes
 pub mod Example
 pub mod Image
 pub mod Loaded
+pub mod LoadedTapes
 pub mod Tapes

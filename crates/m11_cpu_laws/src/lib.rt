@@ -40,9 +40,11 @@ mod witnesses;
 pub use witnesses::premises_are_met;
 
 // The images of tapes, and what a load leaves in memory.
+mod decided;
 mod images;
 mod loads;
 
+pub use decided::tapes_decide_their_loads;
 pub use images::{later_blocks_count, tapes_have_one_image};
 pub use loads::{
     a_byte_is_loaded_over_another, larger_memories_hold_the_same, tapes_load_their_bytes,
