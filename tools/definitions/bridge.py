@@ -1,7 +1,7 @@
 """From the words of a command to the definitions, and back to files and lines: what `asm`, `link` and `sim` say of a command whose devices don't fail.
 
-Two relations of the definitions are read here by hand as functions: each has one constructor that fits in each state. What else is computed is
-written from the definitions."""
+One relation of the definitions is read here by hand as a function: it has one constructor that fits in each state. What else is computed is written
+from the definitions."""
 import os
 
 from names import Meaning
@@ -14,8 +14,8 @@ ASM = """m11_asm.Written.program_writes m11_asm.Written.written m11_asm.Written.
     m11_asm_passes.Refusals.line_fault m11_asm_passes.Refusals.given_by m11_asm_passes.Lines.acted m11_asm_passes.Lines.with_line
     m11_asm_passes.Lines.counting_at m11_asm_passes.Lines.table_at m11_asm_passes.Lines.numbered m11_asm_faults.Faults.of_unfolding
     m11_asm_faults.Faults.of_lines m11_asm_rules.Meanings.empty_map m11_asm_lines.Counting.none_used"""
-LINK = """m11_obj_blocks.Blocks.first_block m11_obj_blocks.Limited.most_bytes m11_link.Objects.outcome m11_link_text.Findings.findings_of
-    m11_link.Written.link_writes m11_link.Written.counted m11_cli_tasks.Commands.default_bottom"""
+LINK = """m11_link_laws.ItemsOf.items_of m11_link.Objects.outcome m11_link_text.Findings.findings_of m11_link.Written.link_writes
+    m11_link.Written.counted m11_cli_tasks.Commands.default_bottom"""
 SIM = """m11_cpu_laws.LoadedTapes.tape_load m11_cpu_machine.Machine.new_machine m11_cpu.Loading.stored m11_cpu.Simulation.started
     m11_cpu.Simulation.text_at_stop m11_cli_tasks.Commands.default_steps m11_cli_tasks.Commands.most_words"""
 ALL = "m11_cli.FaultLines.line_of m11_cli.Outcome.status_of m11_cli_reports.Lines.open_line"
@@ -130,25 +130,10 @@ def asm(definitions, options, texts):
 
 # ---- link
 
-def object_items(definitions, data):
-    """`ObjectItems` of m11_link/specs/Objects.antt: the items that the bytes of an object yield."""
-    most, found = definitions.most_bytes(), []
-    rest = of_items(list(data[:most]))
-    while (read := definitions.first_block(rest)).tag == "Ok":
-        content, rest = read.parts[0]
-        found.append(Value("BlockOf", (content,)))
-    stop = read.parts[0]
-    if stop.tag != "Refused" and len(data) > most:
-        return found + [Value("Refused", (Value("TooMuch"),))]
-    if stop.tag == "Between":
-        return found + [Value("ObjectEnds")]
-    return found + [Value("Refused", (Value("Block", (stop.parts[0] if stop.tag == "Refused" else Value("Truncated"),)),))]
-
-
 def link(definitions, options, texts):
     """The outcome of a link of these objects."""
     bottom = options.get("-b", definitions.default_bottom())
-    parts = definitions.outcome(bottom, of_items([item for text in texts for item in object_items(definitions, text)]))
+    parts = definitions.outcome(bottom, of_items([item for text in texts for item in items(definitions.items_of(of_items(list(text))))]))
     if parts.tag == "Err":
         return ended(definitions, "Link", parts, outputs={options[word]: b"" for word in ("-o", "-m") if word in options})
     writes = definitions.link_writes(definitions.findings_of(bottom, parts.parts[0]), parts.parts[0])

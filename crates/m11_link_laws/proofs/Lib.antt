@@ -7,6 +7,7 @@ pub mod JoiningEnds
 pub mod JoiningFindings
 pub mod JoiningWrites
 pub mod ItemsParts
+pub mod ItemsComputed
 pub mod JoiningItems
 pub mod WholeObjects
 pub mod TextsFit

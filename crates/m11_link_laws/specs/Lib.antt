@@ -2,6 +2,7 @@ pub mod Spans
 pub mod Texts
 pub mod LinkedTexts
 pub mod Lines
+pub mod ItemsOf
 pub mod Joining
 pub mod Moving
 pub mod Order

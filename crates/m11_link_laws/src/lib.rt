@@ -34,6 +34,11 @@ pub use outputs::{
 };
 pub use texts::unrelocated_texts_are_the_tape;
 
+// The items that objects yield.
+mod items;
+
+pub use items::objects_yield_their_items;
+
 // Whole runs with known objects, and the sizes of a link's tables.
 mod runs;
 mod tables;
