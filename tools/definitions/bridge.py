@@ -1,19 +1,16 @@
 """From the words of a command to the definitions, and back to files and lines: what `asm`, `link` and `sim` say of a command whose devices don't fail.
 
-One relation of the definitions is read here by hand as a function: it has one constructor that fits in each state. What else is computed is written
-from the definitions."""
+The relations of a pass, of an object's items and of a load are computed by functions of which laws say that they are these relations."""
 import os
 
 from names import Meaning
 from reader import Fault
-from runtime import NIL, Record, Value, append, forget, items, length, of_items, single
+from runtime import NIL, Record, Value, forget, items, of_items
 from writer import Program
 
 ASM = """m11_asm.Written.program_writes m11_asm.Written.written m11_asm.Written.flagged_count m11_asm.Program.program_of m11_asm_passes.Lines.givens
-    m11_scan_line_laws.Readings.reading_of m11_unfold_rules.Limits.next_fault m11_unfold_rules.Taking.move m11_unfold_rules.Stages.start
-    m11_asm_passes.Refusals.line_fault m11_asm_passes.Refusals.given_by m11_asm_passes.Lines.acted m11_asm_passes.Lines.with_line
-    m11_asm_passes.Lines.counting_at m11_asm_passes.Lines.table_at m11_asm_passes.Lines.numbered m11_asm_faults.Faults.of_unfolding
-    m11_asm_faults.Faults.of_lines m11_asm_rules.Meanings.empty_map m11_asm_lines.Counting.none_used"""
+    m11_scan_line_laws.Readings.reading_of m11_asm_outcome_laws.PassesOver.pass_over m11_asm_rules.Meanings.empty_map
+    m11_asm_lines.Counting.none_used m11_asm_passes.Lines.table_at"""
 LINK = """m11_link_laws.ItemsOf.items_of m11_link.Objects.outcome m11_link_text.Findings.findings_of m11_link.Written.link_writes
     m11_link.Written.counted m11_cli_tasks.Commands.default_bottom"""
 SIM = """m11_cpu_laws.LoadedTapes.tape_load m11_cpu_machine.Machine.new_machine m11_cpu.Loading.stored m11_cpu.Simulation.started
@@ -82,40 +79,18 @@ def ok(**fields):
 MOST_SOURCE = 200000
 
 
-def live_lines(definitions, mapping, counting, reading):
-    """`PassLines`, `Ends` and `Refuses` of m11_asm_passes and m11_asm: the live lines of a reading, the fault that refuses it or None, and its end."""
-    stage, lines, source, read = definitions.start(NIL), NIL, items(reading.lines), 0
-    while not stage.has_ended:
-        if length(stage.left) == 0 and read == len(source):
-            fault = definitions.of_lines(reading.fault.parts[0]) if reading.fault.parts else None
-            return lines, fault, Record({"read": read, "has_end": False})
-        if length(stage.left) == 0:
-            stage, read = definitions.with_line(source[read], stage), read + 1
-            continue
-        limit, move = definitions.next_fault(stage), definitions.move(stage)
-        if limit.parts:
-            return lines, definitions.of_unfolding(limit.parts[0]), None
-        if move.tag == "Passes":
-            stage = move.parts[0]
-            continue
-        (live, after), table = move.parts, definitions.table_at(mapping, lines)
-        refused = definitions.line_fault(mapping, table, definitions.counting_at(mapping, counting, lines), live, after)
-        if refused.parts:
-            return lines, refused.parts[0], None
-        lines, stage = append(lines, single(definitions.numbered(read, definitions.given_by(table, live, after)))), definitions.acted(table, live, after)
-    return lines, None, Record({"read": read, "has_end": True})
-
-
 def assembled(definitions, sources):
     """The result of an assembly of these texts, all its writes, the program of the first pass, and the live lines of the second."""
     reading = definitions.reading_of(of_items([of_items(list(source)) for source in sources]))
-    lines, fault, _ = live_lines(definitions, definitions.empty_map(), definitions.none_used(), reading)
-    if fault is not None:
-        return Value("Err", (fault,)), NIL, None, NIL
-    program = definitions.program_of(definitions.givens(lines))
-    lines, fault, end = live_lines(definitions, program.map, Value("Definitions"), reading)
-    if fault is not None:
-        return Value("Err", (fault,)), definitions.written(program, lines), program, lines
+    first = definitions.pass_over(definitions.empty_map(), definitions.none_used(), reading)
+    if first.result.tag == "Err":
+        return first.result, NIL, None, NIL
+    program = definitions.program_of(definitions.givens(first.lines))
+    second = definitions.pass_over(program.map, Value("Definitions"), reading)
+    lines = second.lines
+    if second.result.tag == "Err":
+        return second.result, definitions.written(program, lines), program, lines
+    end = second.result.parts[0]
     return ok(flagged=definitions.flagged_count(program, lines, end.has_end)), definitions.program_writes(program, lines, end), program, lines
 
 

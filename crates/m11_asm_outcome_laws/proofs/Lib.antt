@@ -20,3 +20,4 @@ mod RunsRefused
 mod Shaped
 mod SourcesRead
 mod WholeOutcomes
+pub mod PassesComputed

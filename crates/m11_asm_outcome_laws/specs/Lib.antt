@@ -6,6 +6,7 @@ pub mod Messages
 pub mod Numbers
 pub mod OneText
 pub mod Outputs
+pub mod PassesOver
 pub mod Runs
 pub mod Shapes
 pub mod Sources

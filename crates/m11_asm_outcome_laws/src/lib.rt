@@ -13,6 +13,11 @@ pub use source_laws::{
     the_lines_of_a_pass_are_those_of_the_whole_source, what_lines_define_they_use,
 };
 
+// What a pass over a reading comes to is computed.
+mod passes;
+
+pub use passes::passes_come_to_what_is_computed;
+
 // Sources have one outcome, which every run writes unless a device or a lack of memory stops it.
 mod laws;
 
