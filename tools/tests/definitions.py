@@ -187,6 +187,17 @@ ANSWERS = (
 )
 
 
+def check_tape():
+    """A tape that ends after the header of a block outside memory isn't whole; that its address is outside memory isn't reached."""
+    with tempfile.TemporaryDirectory() as folder:
+        tape = os.path.join(folder, "H.TAP")
+        with open(tape, "wb") as file:
+            file.write(b"\1\0\7\0\377\377")
+        done = subprocess.run([os.path.join(FOLDER, "run"), "sim", tape], capture_output=True, text=True, timeout=60, check=False)
+    said = done.returncode, done.stdout, done.stderr
+    return [] if said == (4, "", "?M11 SIM 2 Truncated\n") else [f"a tape of a header alone gives {said}"]
+
+
 def check_answers():
     """What `run` prints: values, and sentences without a traceback."""
     wrong = []
@@ -199,4 +210,4 @@ def check_answers():
 
 
 CHECKS = [("definitions-lists", check_lists, ()), ("definitions-library", check_library, ()), ("definitions-strictness", check_strictness, ()),
-          ("definitions-answers", check_answers, ())]
+          ("definitions-tape", check_tape, ()), ("definitions-answers", check_answers, ())]
