@@ -95,6 +95,11 @@ def addresses_of(state, code):
     return [state.registers[PC], *found.addresses, *([pushed] if code >> 9 == 4 else []), *popped]
 
 
+def is_of_status(state, code):
+    """Whether an address of an instruction is that of the processor status or of its high byte."""
+    return any(address & ~1 == 0o177776 for address in addresses_of(state, code))
+
+
 def changes(mine, other):
     """The words of memory in which two states differ, as indices."""
     return [at for at, (one, two) in enumerate(zip(mine.memory, other.memory)) if one != two]
@@ -111,7 +116,7 @@ def register_first(before, mine, other, code):
     is_changed = number == source and 2 <= mode <= 5 or source == PC and (mode >= 6 or number == PC and mode)
     changed = changes(mine, other)
     is_little = mine.registers[:PSW] == other.registers[:PSW] and not (mine.registers[PSW] ^ other.registers[PSW]) & ~CODES and len(changed) <= 1
-    return bool(mode and is_double(code) and is_changed and (is_little or 0o177776 in addresses_of(before, code)))
+    return bool(mode and is_double(code) and is_changed and (is_little or is_of_status(before, code)))
 
 
 def codes_of_a_failed_store(before, mine, other, code):
@@ -162,7 +167,7 @@ def stack_pointer_of_a_call(before, mine, other, code):
 
 def codes_before_the_address(before, mine, other, code):
     """CLR and CLRB set the condition codes there before the address of their operand is formed, which shows if the processor status is a pointer to it."""
-    return code >> 6 in (0o50, 0o1050) and 0o177776 in addresses_of(before, code) and mine.registers == other.registers and len(changes(mine, other)) <= 2
+    return code >> 6 in (0o50, 0o1050) and is_of_status(before, code) and mine.registers == other.registers and len(changes(mine, other)) <= 2
 
 
 def vector_under_the_stack(before, mine, other, code):
