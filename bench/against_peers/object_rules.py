@@ -18,13 +18,14 @@ def even_at_the_end(one, two, source):
     """There .EVEN and .ODD at the end of a section don't count in its size. Nothing is stored in the bytes that are missing."""
     if not re.search(r"(?i)\.(EVEN|ODD)", source):
         return False
-    changed = False
+    # Each adds at most a byte, and in a repeat at most one a round.
+    most, changed = 16 if re.search(r"(?is)\.REPT\b.*?\.(EVEN|ODD)\b.*?\.END[RM]", source) else 4, False
     for name, (mine_flags, mine) in one["sections"].items():
         flags, size = two["sections"].get(name, (mine_flags, 0))
         places = {(name, place) for place in range(size, mine)}
         is_stored = any(places & set(part) for part in (one["bytes"], one["values"], two["bytes"], two["values"]))
         is_word_before = any((name, size - 1) in part["values"] and not part["values"][name, size - 1].is_byte for part in (one, two))
-        if 1 <= mine - size <= 4 and not is_stored and not is_word_before:
+        if 1 <= mine - size <= most and not is_stored and not is_word_before:
             two["sections"][name], changed = (flags, mine), True
     return changed
 

@@ -1,7 +1,7 @@
 """The first step of a program after which m11's machine and SIMH's differ."""
 from against_peers import machines
 
-# Up to where memory is looked at in a search, unless nothing differs there.
+# Up to where memory is looked at in a search, unless nothing differs there, or something further up did earlier.
 SOME_MEMORY = 0o7776
 # How many step counts are tried in one start of SIMH.
 TRIED = 6
@@ -20,12 +20,14 @@ def states(programs, tape, counts, room, top):
 
 
 def first_difference(programs, tape, last, room):
-    """The step and the states of `first_in`, for as little memory as shows a difference, with all memory."""
-    found = first_in(programs, tape, last, room, SOME_MEMORY) or first_in(programs, tape, last, room, machines.TOP_ADDRESS)
-    if found is None:
-        return None
-    (_, *before), (_, *after) = states(programs, tape, [found - 1, found], room, machines.TOP_ADDRESS)
-    return found, before, after
+    """The step and the states of `first_in`, for as little memory as shows a difference, with all memory: before the step all of it has to be alike."""
+    for top in (SOME_MEMORY, machines.TOP_ADDRESS):
+        found = first_in(programs, tape, last, room, top)
+        if found is not None:
+            (_, *before), (_, *after) = states(programs, tape, [found - 1, found], room, machines.TOP_ADDRESS)
+            if is_same(*before):
+                return found, before, after
+    return None
 
 
 def first_in(programs, tape, last, room, top):

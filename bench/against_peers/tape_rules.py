@@ -166,8 +166,9 @@ def stack_pointer_of_a_call(before, mine, other, code):
 
 
 def codes_before_the_address(before, mine, other, code):
-    """CLR and CLRB set the condition codes there before the address of their operand is formed, which shows if the processor status is a pointer to it."""
-    return code >> 6 in (0o50, 0o1050) and is_of_status(before, code) and mine.registers == other.registers and len(changes(mine, other)) <= 2
+    """CLR, CLRB and SXT set the condition codes there before the address of their operand is formed, which shows if the processor status is a pointer
+    to it."""
+    return code >> 6 in (0o50, 0o1050, 0o67) and is_of_status(before, code) and mine.registers == other.registers and len(changes(mine, other)) <= 2
 
 
 def vector_under_the_stack(before, mine, other, code):
