@@ -167,8 +167,9 @@ def stack_pointer_of_a_call(before, mine, other, code):
 
 def codes_before_the_address(before, mine, other, code):
     """CLR, CLRB and SXT set the condition codes there before the address of their operand is formed, which shows if the processor status is a pointer
-    to it."""
-    return code >> 6 in (0o50, 0o1050, 0o67) and is_of_status(before, code) and mine.registers == other.registers and len(changes(mine, other)) <= 2
+    to it, or is an odd one before and not after."""
+    is_like = mine.registers == other.registers and len(changes(mine, other)) <= 2 or has_trapped(before, mine, 4)
+    return code >> 6 in (0o50, 0o1050, 0o67) and is_of_status(before, code) and is_like
 
 
 def vector_under_the_stack(before, mine, other, code):
