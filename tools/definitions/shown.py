@@ -152,11 +152,23 @@ def short(meaning):
     return ".".join([part for part in meaning.path.split(".")[1:] if part != "specs"] + [meaning.name])
 
 
+def kind_of_code(project, name):
+    """What a name means that the code declares and definitions use, or None."""
+    for module in project.modules():
+        if name in project.text(project.path_of(module)):
+            for use in project.file(module).uses:
+                if ".declared." in use.module and name in use.names.values():
+                    return "a constructor of a type of the code" if use.module.endswith(".TheVariants") else "a type of the code"
+    return None
+
+
 def definition(project, name):
     """The one definition with a name that has values."""
     found = found_by(project, name)
     if not found:
-        raise Fault(f"no definition has the name `{name}`; `run list {name.split('.')[-1].split('_')[0]}` finds some by a word")
+        kind = kind_of_code(project, name)
+        raise Fault(f"`{name}` is {kind}, and no definition" if kind else
+                    f"no definition has the name `{name}`; `run list {name.split('.')[-1].split('_')[0]}` looks for some by a word")
     if len(found) > 1:
         raise Fault(f"{len(found)} definitions have the name `{name}`; choose one of {', '.join(map(short, found))}")
     declaration = project.declaration(found[0])
