@@ -307,10 +307,10 @@ def check_signals(room):
 
 # A call that gets a signal just after its temporary folder was made, or just before that is removed.
 SIGNALLED = """
-import os, shutil, signal, sys, tempfile
+import os, signal, sys, tempfile
 sys.path.insert(0, sys.argv[1])
 from building.main import main
-makes, removes = tempfile.mkdtemp, shutil.rmtree
+makes, removes = tempfile.mkdtemp, tempfile.TemporaryDirectory.cleanup
 
 def making(*words, **named):
     folder = makes(*words, **named)
@@ -324,7 +324,7 @@ def removing(*words, **named):
 if sys.argv[2] == "making":
     tempfile.mkdtemp = making
 else:
-    shutil.rmtree = removing
+    tempfile.TemporaryDirectory.cleanup = removing
 sys.exit(main(sys.argv[3:], os.path.dirname(sys.argv[1])))
 """
 
