@@ -2,8 +2,33 @@
 #
 # They set `top`, the folder of the repository or of a release, and `name`, by which the program is called. Then `run_program WORD...` becomes
 # the program in out/, which ./prove built here, or else the one in dist/. The caller's arguments, folder and standard streams are the program's
-# own. Nothing is built, and no source is looked at: only --version does that. Where the program can't be run the status is 70, which no program
-# leaves. This is the shell's plain language, without another process, so a call costs less than a millisecond over the program itself.
+# own. `each_option FUNCTION WORD...` reads the words as the programs do, and `refuse` ends a script before its program runs. Nothing is built, and
+# no source is looked at: only --version does that. Where the program can't be run the status is 70, which no program leaves. This is the shell's
+# plain language, without another process, so a call costs less than a millisecond over the program itself.
+
+refuse() {
+    printf '%s\n' "$name: $1" >&2
+    exit 2
+}
+
+# Calls a function with each option of a call and its value, as the programs read them, and with an empty option and the word for each other word.
+# Nothing more is called after a question for help.
+each_option() {
+    called=$1 only_paths=
+    shift
+    while [ $# -gt 0 ]; do
+        word=$1 option= value=$1
+        shift
+        case $only_paths$word in
+            --) only_paths=1 && continue ;;
+            -h | --help) return ;;
+            --*=*) option=${word%%=*} value=${word#*=} ;;
+            -[!-]?*) value=${word#-?} && option=${word%"$value"} && value=${value#=} ;;
+            -?*) option=$word value=${1-} && [ $# -eq 0 ] || shift ;;
+        esac
+        "$called" "$option" "$value"
+    done
+}
 
 run_program() {
     if [ $# -eq 1 ] && [ "$1" = --version ]; then

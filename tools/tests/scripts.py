@@ -150,6 +150,11 @@ TAKEN = (
 )
 
 
+# The same of m11-trace, whose lines may go to a file.
+REFUSED_LINES = ("-o A.MAC A.MAC", "-oA.MAC ./A.MAC", "-o LINK -y A.MAC B.MAC", "--output=HARD --symbols A.MAC B.MAC", "B.MAC -y B.MAC -y A.MAC -o A.MAC")
+TAKEN_LINES = ("-o N A.MAC", "-o N -y A.MAC B.MAC", "-o /dev/null /dev/null", "-h -o A.MAC A.MAC", "A.MAC", "-n 5 -p 1000 A.MAC", "-o", "-o N -- A.MAC -o")
+
+
 def check_paths(repository):
     """An output that is also an input or another output is refused before anything runs."""
     fill_dist(repository)
@@ -165,6 +170,11 @@ def check_paths(repository):
     repository.expect("another", repository.run(["link", "-o", "LINK", "A.MAC"])[2], "m11: the tape LINK would be written over the object A.MAC\n")
     for words in TAKEN:
         repository.expect(words, repository.run(words.split()), (4, f"ran {words}\n", ""))
+    for words in REFUSED_LINES:
+        status, out, said = repository.run(words.split(), "m11-trace")
+        repository.expect(words, (status, out, said.startswith("m11-trace: the lines of the steps would be written over ")), (2, "", True))
+    for words in TAKEN_LINES:
+        repository.expect(words, repository.run(words.split(), "m11-trace")[0], 4)
 
 
 def check_completion(repository):
