@@ -1,4 +1,5 @@
 """The commands: their words, abbreviations and arguments."""
+import os
 import re
 
 from contents import content_of
@@ -47,10 +48,10 @@ ESCAPES = {"r": "\r", "n": "\n", "t": "\t", "e": "\33", "b": "\b", "0": "\0"}
 
 
 class Commands:
-    """The commands of a session. `names` are all of them, for completion."""
+    """The commands of a session. `names` are all of them, for completion; `inputs` are the files that the session reads."""
 
-    def __init__(self, session, about):
-        self.session, self.out, self.about, self.done, self.depth = session, session.out, about, [], 0
+    def __init__(self, session, about, inputs=()):
+        self.session, self.out, self.about, self.inputs, self.done, self.depth = session, session.out, about, inputs, [], 0
         self.is_over = False
         self.calls = {"break": self.do_break, "delete": self.do_delete, "go": self.do_go, "step": self.do_step, "over": self.do_over, "out": self.do_out,
                       "back": self.do_back, "to": self.do_to, "run": self.do_run, "watch": self.do_watch, "examine": self.do_examine,
@@ -265,6 +266,9 @@ class Commands:
     def do_save(self, rest):
         if not rest:
             raise Refused("save into which file?")
+        for path in self.inputs:
+            if os.path.isfile(rest) and os.path.exists(path) and os.path.samefile(path, rest):
+                raise Refused(f"the commands would be written over {path}, which this session reads")
         text = "".join(line + "\n" for line in [f"; {self.about}", *self.done])
         try:
             with open(rest, "w", encoding="utf-8", errors="surrogateescape") as file:
@@ -274,6 +278,8 @@ class Commands:
 
     def do_source(self, rest):
         """Makes the commands of a file, each shown after its prompt; a refused one is reported, and the others follow."""
+        if not rest:
+            raise Refused("the commands of which file?")
         if self.depth >= 8:
             raise Refused(f"{rest}: files of commands are nested too deep")
         try:

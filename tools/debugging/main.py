@@ -146,8 +146,20 @@ def guarded(commands, call, *given):
         out(f"stopped by Ctrl-C: still after {commands.session.now} steps")
 
 
+def expect_file(path):
+    """A file of commands has to be one that can be read, before anything begins."""
+    try:
+        os.stat(path)
+    except (OSError, ValueError) as error:
+        raise Refused(f"{path}: {getattr(error, 'strerror', None) or error}", 3) from error
+    if os.path.isdir(path) or not os.access(path, os.R_OK):
+        raise Refused(f"{path} is a folder, or can't be read", 3)
+
+
 def begin(given, top):
     """The commands of a session for the tape."""
+    for path in given.commands:
+        expect_file(path)
     content = naming.read(given.input) if given.input else b""
     options = [word for name, value in (("-s", given.start), ("-k", given.words)) if value for word in (name, value)]
     names = naming.load(given.symbols, int(given.bottom, 8), load_map_of(top, given.bottom))
@@ -158,7 +170,7 @@ def begin(given, top):
         runs.close()
         raise
     about = " ".join(["m11-debug", *(f"-y {path}" for path in given.symbols), given.tape])
-    return Commands(Session(timeline, names, out), about)
+    return Commands(Session(timeline, names, out), about, [given.tape, *given.symbols, *([given.input] if given.input else [])])
 
 
 def debug(given, top):

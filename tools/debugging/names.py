@@ -206,7 +206,8 @@ def place_by_parts(names, listings):
         fitting = [parts for parts in modules if has_sections(parts, listing)]
         titled = [parts for parts in fitting if {part.module for part in parts.values()} == {listing.title}]
         if not fitting:
-            raise Refused(f"{listing.path} is of no module of the load map: none has its sections with their sizes", 4)
+            raise Refused(f"{listing.path} is of no module of the load map, or only of one that has a listing already: none has its sections with their "
+                          "sizes", 4)
         parts = (titled or fitting)[0]
         modules = [other for other in modules if other is not parts]
         listing.parts = {number: parts[name] for number, (name, _) in listing.sections.items() if name in parts}

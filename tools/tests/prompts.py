@@ -129,7 +129,7 @@ def check_files(found, folder):
                                 (["-n", "x", "LONG.TAP"], 2, "-n x: "), (["-s", "9", "LONG.TAP"], 2, "?M11 USAGE 3 BadOctal OF -s 9"),
                                 (["-b", "1001", "LONG.TAP"], 2, "-b 1001: "),
                                 (["-k", "5", "LONG.TAP"], 2, "5"), (["--help"], 0, "usage: m11-debug"), (["--version"], 0, "m11-debug, over m11-trace "),
-                                (["-x", "NONE", "LONG.TAP"], 0, "NONE: No such file")):
+                                (["-x", "NONE", "LONG.TAP"], 3, "m11-debug: NONE: No such file")):
         expect_in(found, str(words), call("m11-debug", *words, folder=folder, status=status), part)
     for name in ("LONG.LST", "LONG.MAP", "LONG.OBJ"):
         with open(os.path.join(folder, name), "rb") as file:
