@@ -1,9 +1,10 @@
 -- The kind of a file, by its first block. (This project's own.) Blocks of objects and of tapes have the same form, but a block of
 -- an object begins with the type of its record, and one of a tape with an address. The linker accepts three types of a first
--- record: 1 (a directory), 2 (the end of a directory) and 5 (internal symbols). A library begins with a record of type 7. No tape
--- loads a word at 1, 5 or 7, and a tape that starts at 2 has data before its transfer block. A tape with an odd start address, such
--- as 1, may have no data; but in an object further blocks follow a directory without entries.
-use Rattle.std.specs.Prelude.{◌≡◌, ℕ, Bool, true, false, ◌==◌, if◌then◌else◌, Result, Ok, Err}
+-- record: 1 (a directory), 2 (the end of a directory) and 5 (internal symbols). A library begins with a record of type 7. Records of types 5
+-- and 7 have even numbers of bytes, and a tape that begins at 5 or 7 mostly has an odd number there, since no word lies at an odd address. No
+-- tape loads a word at 1, and a tape that starts at 2 has data before its transfer block. A tape with an odd start address, such as 1, may
+-- have no data; but in an object further blocks follow a directory without entries.
+use Rattle.std.specs.Prelude.{◌≡◌, ℕ, ◌%◌, Bool, true, false, ◌==◌, if◌then◌else◌, Result, Ok, Err}
 use Rattle.m11_obj_blocks.specs.Limited.{Position, most_bytes}
 use Rattle.m11_obj_blocks.specs.Tapes.{ReadsPart, first_part}
 use Rattle.m11_obj_blocks.specs.declared.tape_fault.TapeFault.{TapeFault}
@@ -13,9 +14,10 @@ use Rattle.m11_obj_blocks.specs.declared.tape_part.TapePart.TheVariants.{Data, S
 use Rattle.m11_dump.specs.declared.kind.Kind.{Kind}
 use Rattle.m11_dump.specs.declared.kind.Kind.TheVariants.{Object, Library, Tape}
 
--- the kind of a file whose first block has this address, or this record type, and some data
-abbrev pub kind_by_data : ℕ → Kind
-kind_by_data address = if address == 1 then Object else if address == 5 then Object else if address == 7 then Library else Tape
+-- the kind of a file whose first block has this address, or this record type, and so many bytes of data
+abbrev pub kind_by_data : ℕ → ℕ → Kind
+kind_by_data address count =
+    if address == 1 then Object else if count % 2 == 1 then Tape else if address == 5 then Object else if address == 7 then Library else Tape
 
 -- the kind of a file whose first block has this address, or this record type, and no data
 abbrev pub kind_by_start : ℕ → Kind
@@ -23,7 +25,7 @@ kind_by_start address = if address == 2 then Object else if address == 5 then Ob
 
 -- the kind of a file, from the result of reading its first block as a tape's; if that fails, the file is an object
 abbrev pub kind_by : Result TapePart TapeFault → Kind
-kind_by (Ok (Data address count)) = kind_by_data address
+kind_by (Ok (Data address count)) = kind_by_data address count
 kind_by (Ok (Start address)) = kind_by_start address
 kind_by (Err fault) = Object
 

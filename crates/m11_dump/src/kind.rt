@@ -19,12 +19,14 @@ pub enum Kind {
     Tape,
 }
 
-// The kind of a file whose first block, read as a tape's, has this address and some data.
-fn kind_by_data(address: u16) -> Kind
-    ensures { result ≡ kind_by_data address }
+// The kind of a file whose first block, read as a tape's, has this address and so many bytes of data.
+fn kind_by_data(address: u16, count: u16) -> Kind
+    ensures { result ≡ kind_by_data address count }
 {
     match address {
-        1 | 5 => Kind::Object,
+        1 => Kind::Object,
+        _ if count % 2 == 1 => Kind::Tape,
+        5 => Kind::Object,
         7 => Kind::Library,
         _ => Kind::Tape,
     }
@@ -46,7 +48,7 @@ fn kind_by(first: Result<TapePart, TapeFault>) -> Kind
     ensures { result ≡ kind_by first }
 {
     match first {
-        Ok(TapePart::Data { address, .. }) => kind_by_data(address),
+        Ok(TapePart::Data { address, count }) => kind_by_data(address, count),
         Ok(TapePart::Start(address)) => kind_by_start(address),
         Err(_) => Kind::Object,
     }
@@ -84,8 +86,8 @@ fn read_block<F: Feed>(feed: &mut F) -> Result<TapePart, TapeFault>
 
 /// The kind of a file, from the first word of its first block, which is a record type in an object and a load address in a tape. The
 /// file is an object if this word is 1 (a directory) or 5 (internal symbols), or if it is 2 (the end of a directory) and nothing
-/// follows it in the block; a library if it is 7; otherwise a tape. But if the word is 1 and nothing follows it in the block, the file
-/// is a tape if it ends without a further block. If the first block can't be read, the file is an object. The feed is read up to the
+/// follows it in the block; a library if it is 7; otherwise a tape. But if it is 5 or 7 and an odd number of bytes follows it in the block,
+/// the file is a tape; and if it is 1 and nothing follows it in the block, the file is a tape if it ends without a further block. If the first block can't be read, the file is an object. The feed is read up to the
 /// end of this word, or up to the end of the block if nothing follows the word. A further block is read only if the word is 1 and
 /// nothing follows it, and then in the same way.
 pub fn kind_of<F: Feed>(feed: &mut F) -> Kind
