@@ -53,12 +53,12 @@ def ours(programs, source, room):
     return assembly_of(status, messages(OUR_MESSAGE, said, True), content_of(room / "O.OBJ"))
 
 
-def theirs(programs, source, room):
-    """macro11 on a source."""
+def theirs(programs, source, room, libraries=()):
+    """macro11 on a source, with libraries of macros."""
     (room / "T.MAC").write_text(source, encoding="latin-1")
     (room / "T.OBJ").unlink(missing_ok=True)
     try:
-        status, _, said = run([programs.macro11, "-o", room / "T.OBJ", room / "T.MAC"], patience=0.5)
+        status, _, said = run([programs.macro11, *(word for path in libraries for word in ("-m", path)), "-o", room / "T.OBJ", room / "T.MAC"], patience=0.5)
     except Hung:
         return Assembly("hung", {})
     return assembly_of(status, messages(THEIR_MESSAGE, said, False), content_of(room / "T.OBJ"))

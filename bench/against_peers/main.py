@@ -3,9 +3,10 @@
     bench/against PEERS [--seed N] [--count N] [--minutes N] [--only KIND] [--programs FOLDER]
     bench/against PEERS --again KIND SEED NUMBER
 
-PEERS is a folder with macro11 and GNU binutils for pdp11-aout (against_peers/README.md says how to get them); SIMH's pdp11 is looked for on the PATH.
-Kinds whose peer is missing are left out, which is said. Each kind has COUNT cases at most (by default 1000) and takes MINUTES at most. FOLDER has
-m11, m11-dump and m11-trace; it is dist by default. A case that agrees with no rule is printed, with its number. --again compares one case and shows it.
+PEERS is a folder with macro11, its dumpobj and GNU binutils for pdp11-aout (against_peers/README.md says how to get them); SIMH's pdp11 is looked for on
+the PATH. Kinds whose peer is missing are left out, which is said. Each kind has COUNT cases at most (by default 1000) and takes MINUTES at most. FOLDER
+has m11, m11-dump and m11-trace; it is dist by default. A case that agrees with no rule is printed, with its number. --again compares one case and shows
+it.
 
 The last line is `N agree, M differ by a named rule, K unexplained`. Status 0: K is 0. 1: it isn't. 2: the words are refused."""
 import argparse

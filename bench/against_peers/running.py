@@ -19,7 +19,7 @@ class Programs:
     def __init__(self, peers, ours=None):
         ours, peers = Path(ours or TOP / "dist"), Path(peers)
         self.m11, self.dump, self.trace = (ours / name for name in ("m11", "m11-dump", "m11-trace"))
-        self.macro11, self.gnu = peers / "macro11", peers / "pdp11" / "bin"
+        self.macro11, self.dumpobj, self.gnu = peers / "macro11", peers / "dumpobj", peers / "pdp11" / "bin"
         self.simh = shutil.which("pdp11")
 
     def versions(self):

@@ -43,11 +43,11 @@ def text_of(lines):
     return "\n".join(lines) + "\n"
 
 
-def compare(programs, lines, room):
+def compare(programs, lines, room, assemblers=(ours, theirs)):
     """The result for a source. Lines of rules are replaced until nothing is left, since what one rule does may show what another one does."""
     names, first = set(), ""
     for _ in range(ROUNDS):
-        mine, other = ours(programs, text_of(lines), room), theirs(programs, text_of(lines), room)
+        mine, other = (assemble(programs, text_of(lines), room) for assemble in assemblers)
         rules, left = remaining(mine, other, text_of(lines))
         first = first or left
         if not left:

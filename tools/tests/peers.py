@@ -22,7 +22,7 @@ from against_peers.source_rules import ALL_LINE_RULES, MISTAKES  # noqa: E402
 
 PEERS = os.environ.get("M11_PEERS") or os.path.join(os.path.dirname(TOP), "peers")
 # How many cases of each kind are compared, and from which one on: instructions have blocks of random words behind those of operators.
-COUNTS = {"sources": 150, "instructions": 60, "tapes": 40, "console": 20, "links": 20}
+COUNTS = {"sources": 150, "instructions": 60, "tapes": 40, "console": 20, "links": 20, "libraries": 30}
 
 
 def programs():
