@@ -20,14 +20,16 @@ def states(programs, tape, counts, room, top):
 
 
 def first_difference(programs, tape, last, room):
-    """The step and the states of `first_in`, for as little memory as shows a difference, with all memory: before the step all of it has to be alike."""
+    """The step and the states of `first_in`, with all memory: for as little memory as shows a difference, if all of it is alike before the step."""
+    difference = None
     for top in (SOME_MEMORY, machines.TOP_ADDRESS):
         found = first_in(programs, tape, last, room, top)
         if found is not None:
             (_, *before), (_, *after) = states(programs, tape, [found - 1, found], room, machines.TOP_ADDRESS)
-            if is_same(*before):
-                return found, before, after
-    return None
+            difference = found, before, after
+            if None not in before and before[0].memory == before[1].memory:
+                break
+    return difference
 
 
 def first_in(programs, tape, last, room, top):
