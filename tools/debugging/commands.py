@@ -273,8 +273,8 @@ class Commands:
         try:
             with open(rest, "w", encoding="utf-8", errors="surrogateescape") as file:
                 file.write(text)
-        except OSError as error:
-            raise Refused(f"{rest}: {error.strerror}", 3) from error
+        except (OSError, ValueError) as error:
+            raise Refused(f"{rest}: {getattr(error, 'strerror', None) or error}", 3) from error
 
     def do_source(self, rest):
         """Makes the commands of a file, each shown after its prompt; a refused one is reported, and the others follow."""

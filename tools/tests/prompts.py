@@ -81,7 +81,7 @@ BAD = ("foo", "s x", "step -1", "break", "break NOWHERE", "b 1001", "b 177560", 
        "over 5", "out", "back x", "back 5 6", "back LIST maybe", "to", "to x", "to 99999999999", "to 2000000000", "watch", "watch 1001", "watch PC", "e 1:",
        "e 1000:776", "e -z 5",
        "e -m 1001", "e 1000/x", "= ", "= 8", "= 200000", "= (", "= @1001", "last x", "input x", "input <400>", "input \"", "source", "source NONE", "save",
-       "save /", "deposit 1 2", "q q",
+       "save /", "save A\0B", "deposit 1 2", "q q",
        "'", "\"", "\0", "\x1b[A", "é", "1000;", "/", "e " + "1+" * 2000 + "1", "b 1000 if " + "@" * 50 + "1=1", "input \"" + "\\" * 1001 + "\"", "calls 1",
        ". .", "e " + "=" * 400_000, "e " + "1+" * 200_000)
 
