@@ -57,6 +57,14 @@ class Listing:
             if found:
                 yield found[1].strip(), int(found[3], 8), found[2] == " = ", int(found[6]) if found[4] == "R" else None
 
+    def globals(self):
+        """The names that this module makes global and defines in a section, with their addresses, once the sections are placed."""
+        for line in self.lines[self.table + 1:self.end]:
+            found = re.fullmatch(r"(.{6})(?: = |   )([0-7]{6}) RG ( *\d+)\s*", line.ljust(22))
+            part = self.parts.get(int(found[3])) if found else None
+            if part:
+                yield found[1].strip(), (part.address + int(found[2], 8)) & 0o177777
+
     def add_to(self, names):
         """Adds the names, once the sections are placed, and the lines."""
         numbers = {}

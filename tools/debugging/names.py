@@ -133,7 +133,7 @@ def load(paths, bottom, load_map_of):
         add_load_map(names, globals_of, path, text)
     for path, text in kinds["map"]:
         add_map(names, globals_of, path, text, bool(maps))
-    add_listings(names, [Listing(path, text) for path, text in kinds["listing"]], bottom, bool(maps), bool(kinds["map"]))
+    add_listings(names, [Listing(path, text) for path, text in kinds["listing"]], bottom, bool(maps), bool(kinds["map"]), globals_of)
     for name, value, module in globals_of:
         part = next((part for part in names.parts if part.has(value) and part.module in (module, None)), None)
         if part is None and names.parts:
@@ -182,14 +182,14 @@ def add_map(names, globals_of, path, text, has_parts):
         globals_of.append((found[1].strip(), int(found[2], 8), found[3].strip()))
 
 
-def add_listings(names, listings, bottom, has_parts, has_map):
+def add_listings(names, listings, bottom, has_parts, has_map, globals_of):
     """Places listings, by the parts of a load map, by the whole sections of a map, or from the bottom on."""
     if not listings:
         return
     if has_parts:
         place_by_parts(names, listings)
     elif has_map:
-        place_by_sections(names, listings)
+        place_by_sections(names, listings, globals_of)
     elif len(listings) > 1:
         raise Refused(f"{listings[0].path} and {listings[1].path} would both begin at {bottom:o}: give the load map too, as m11-dump -m writes it, "
                       "or the map of the link", 2)
@@ -228,7 +228,7 @@ def modules_of(parts):
     return modules
 
 
-def place_by_sections(names, listings):
+def place_by_sections(names, listings, globals_of):
     """With the map of a link the listings have to be those of all its modules, in the order of the link."""
     whole = {part.section: part for part in names.parts}
     sizes, parts = dict.fromkeys(whole, 0), []
@@ -243,11 +243,18 @@ def place_by_sections(names, listings):
                 listing.parts[number] = part
                 parts.append(part)
                 sizes[name] = max(sizes[name], size) if is_shared else sizes[name] + size + size % 2
-    for name, part in whole.items():
-        if sizes[name] != part.size:
-            raise Refused("these listings aren't those of all modules of the map, in the order of the link: give the load map instead, as m11-dump -m "
-                          "writes it", 2)
+    if any(sizes[name] != part.size for name, part in whole.items()) or not are_as_linked(listings, globals_of):
+        raise Refused("these listings aren't those of all modules of the map, in the order of the link: give the load map instead, as m11-dump -m "
+                      "writes it", 2)
     names.parts = parts
+
+
+def are_as_linked(listings, globals_of):
+    """The globals of the listings have the values that the map has for them. What several modules define has only the value of the first."""
+    values = {name: value for name, value, _ in globals_of}
+    found = [one for listing in listings for one in listing.globals()]
+    names = [name for name, _ in found]
+    return all(values.get(name, address) == address for name, address in found if names.count(name) == 1)
 
 
 def place_at(names, listing, bottom):

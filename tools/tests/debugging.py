@@ -295,6 +295,8 @@ def check_names(found, folder):
               "MAIN.LST and SORT.LST would both begin at 1000: give the load map too")
     expect_in(found, "too few listings", call("m11-debug", "-y", "SORTED.MAP", *listings[:4], "SORTED.TAP", folder=folder, status=2),
               "give the load map instead")
+    expect_in(found, "another order", call("m11-debug", "-y", "SORTED.MAP", *listings[2:4], *listings[:2], *listings[4:], "SORTED.TAP", folder=folder, status=2),
+              "give the load map instead")
     build(folder, "PARTS", PARTS)
     said = debug(folder, ["examine -m 1000", "examine -m 1012/2", "examine 1014", "examine FAR", "over", "over", "where"], "-y", "PARTS.LST", "PARTS.TAP")
     expect_in(found, "sections", said, "001000 START          MOV    #1000,SP", "001012 REST ", "001014 REST+2 ", "001016 FAR ", "JSR    PC,FAR")
