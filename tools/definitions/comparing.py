@@ -239,7 +239,10 @@ OBJECTS = {"PRIMES": "asm/primes/PRIMES", "UPPER": "asm/upper/UPPER", "GUESS": "
            "COUNT": "trace/COUNT", "LOADER": "bootstrap/PLACES bootstrap/LOADER", "BOOT": "bootstrap/PLACES bootstrap/BOOT",
            "MAIN": "modules/DEFS modules/MAIN", "SORT": "modules/DEFS modules/SORT", "OUTPUT": "modules/DEFS modules/OUTPUT",
            "RTCALL": "rt11/RT11 rt11/RTCALL", "REVERS": "rt11/RT11 rt11/REVERS", "COPY": "rt11/RT11 rt11/COPY", "NAMES": "rt11/RT11 rt11/NAMES",
-           "CLOCK": "rt11/RT11 rt11/CLOCK", "MEMORY": "rt11/RT11 rt11/MEMORY", "NTYPE": "rt11/NTYPE"}
+           "CLOCK": "rt11/RT11 rt11/CLOCK", "MEMORY": "rt11/RT11 rt11/MEMORY", "NTYPE": "rt11/NTYPE", "BEGIN": "monitor/BEGIN",
+           "GREET": "monitor/EMTS monitor/GREET", "LIFE": "monitor/EMTS monitor/LIFE", "LOWER": "monitor/EMTS monitor/LOWER"}
+# Sources of examples for which the definitions take too long.
+TOO_LONG = frozenset(["monitor/MONITOR"])
 TAPES = {"PRIMES": "PRIMES", "UPPER": "UPPER", "GUESS": "GUESS CONSOL", "P": "P", "COUNT": "COUNT", "LOADER": "LOADER", "BOOT": "BOOT",
          "SORTED": "MAIN SORT OUTPUT", "REVERS": "REVERS", "COPY": "COPY", "NAMES": "NAMES RTCALL", "CLOCK": "CLOCK RTCALL", "MEMORY": "MEMORY RTCALL",
          "HI": "link/MAIN link/TEXT"}
@@ -251,9 +254,18 @@ def example(path):
         return file.read()
 
 
+def unlisted():
+    """Sources of examples that are neither compared nor too long."""
+    listed = TOO_LONG.union(*(sources.split() for sources in OBJECTS.values()))
+    top = os.path.join(TOP, "examples")
+    found = [os.path.relpath(os.path.join(folder, name), top)[:-4] for folder, _, names in os.walk(top) for name in names if name.endswith(".MAC")]
+    return sorted(set(found) - listed)
+
+
 def examples(machinery, program):
     """Each example, assembled, linked and run. Of the console all runs get the same line."""
-    objects = {}
+    missing, objects = unlisted(), {}
+    yield "the sources of the examples", f"{', '.join(missing)} isn't compared" if missing else ""
     for name, sources in OBJECTS.items():
         files = {path.split("/")[1 if path.count("/") == 1 else 2] + ".MAC": example(f"{path}.MAC") for path in sources.split()}
         what, made = compared_call(machinery, program, ["asm", "-o", "P.OBJ", "-l", "P.LST", *files], files)
