@@ -5,7 +5,7 @@ use Rattle.std.proofs.lemmas.List.{length-append, take_all}
 use Rattle.std.specs.Prelude.{codes}
 use Rattle.std.specs.Str.{bytes_eq}
 use Rattle.m11_base_disassembly.specs.Contributions.{contribution_in, contributions_in, with_contribution}
-use Rattle.m11_base_disassembly.specs.Places.{Place, after_module, behind, place_of, place_with}
+use Rattle.m11_base_disassembly.specs.Places.{Place, after_module, with_other, place_of, place_with}
 use Rattle.m11_base_disassembly.specs.declared.contributions.Contribution.{Contribution}
 use Rattle.m11_base_disassembly.specs.declared.map_fault.MapFault.{MapFault}
 
@@ -31,24 +31,24 @@ one_found lines rest line others found new contribution so_far first other is ad
     ∙ one_more found contribution (contributions_in others)
     ∙ ap (λ (n : List Contribution). with_contributions n (contributions_in others)) (sym added)
 
--- the place that a listing has behind these contributions
-abbrev pub all_behind : List Contribution → Option Place → Option Place
-all_behind [] place = place
-all_behind (contribution ∷ done) place = behind contribution (all_behind done place)
+-- a place, with these contributions in front of the others
+abbrev pub with_others : List Contribution → Option Place → Option Place
+with_others [] place = place
+with_others (contribution ∷ done) place = with_other contribution (with_others done place)
 
-pub one_more_behind : (done : List Contribution) (contribution : Contribution) (place : Option Place)
-    → all_behind done (behind contribution place) ≡ all_behind (done ++ contribution ∷ []) place
-one_more_behind [] contribution place = refl
-one_more_behind (first ∷ done) contribution place = ap (behind first) (one_more_behind done contribution place)
+pub one_more_other : (done : List Contribution) (contribution : Contribution) (place : Option Place)
+    → with_others done (with_other contribution place) ≡ with_others (done ++ contribution ∷ []) place
+one_more_other [] contribution place = refl
+one_more_other (first ∷ done) contribution place = ap (with_other first) (one_more_other done contribution place)
 
-pub none_behind : (done : List Contribution) → all_behind done None ≡ None
-none_behind [] = refl
-none_behind (contribution ∷ done) = ap (behind contribution) (none_behind done)
+pub none_with_others : (done : List Contribution) → with_others done None ≡ None
+none_with_others [] = refl
+none_with_others (contribution ∷ done) = ap (with_other contribution) (none_with_others done)
 
-pub found_behind : (done own rest : List Contribution)
-    → all_behind done (Some (place_with own rest)) ≡ Some (place_with own (done ++ rest))
-found_behind [] own rest = refl
-found_behind (contribution ∷ done) own rest = ap (behind contribution) (found_behind done own rest)
+pub found_after : (done own rest : List Contribution)
+    → with_others done (Some (place_with own rest)) ≡ Some (place_with own (done ++ rest))
+found_after [] own rest = refl
+found_after (contribution ∷ done) own rest = ap (with_other contribution) (found_after done own rest)
 
 front_is : (done own : List Contribution) → take (length (done ++ own) - length own) (done ++ own) ≡ done
 front_is done own =
@@ -57,44 +57,44 @@ front_is done own =
 
 -- at the end there is no place
 pub no_place : (sections : List (List ℕ)) (all done own : List Contribution) → length own < 1
-    → place_of sections all ≡ all_behind done (place_of sections own) → place_of sections all ≡ None
-no_place sections all done [] few so_far = so_far ∙ none_behind done
+    → place_of sections all ≡ with_others done (place_of sections own) → place_of sections all ≡ None
+no_place sections all done [] few so_far = so_far ∙ none_with_others done
 no_place sections all done (contribution ∷ rest) few so_far = absurd (omega (arith, few))
 
 module _ (sections : List (List ℕ)) (all done : List Contribution) (item : Contribution) where
   -- the place of a listing, if its module is the first one after these contributions
   pub place_found : (own after : List Contribution) → 1 ≤ length own → item ≡ get_or own 0 item → all ≡ done ++ own
-      → place_of sections all ≡ all_behind done (place_of sections own)
+      → place_of sections all ≡ with_others done (place_of sections own)
       → after_module item.module_name sections own ≡ Some after
       → place_of sections all ≡ Some (place_with own (take (length all - length own) all ++ after))
   place_found [] after some first whole so_far found = absurd (omega (arith, some))
   place_found (contribution ∷ rest) after some first whole so_far found =
       let own : List Contribution = contribution ∷ rest in
       let to : Option (List Contribution) → Option Place =
-      λ r. elim r [ Some others ↦ Some (place_with own others) | None ↦ behind contribution (place_of sections rest) ] in
+      λ r. elim r [ Some others ↦ Some (place_with own others) | None ↦ with_other contribution (place_of sections rest) ] in
       let here : place_of sections own ≡ to (Some after) =
       ap to (subst (λ (c : Contribution). after_module c.module_name sections own ≡ Some after) first found) in
       let front : take (length all - length own) all ≡ done =
       ap (λ (l : List Contribution). take (length l - length own) l) whole ∙ front_is done own in
-      so_far ∙ ap (all_behind done) here ∙ found_behind done own after
+      so_far ∙ ap (with_others done) here ∙ found_after done own after
       ∙ ap (λ (f : List Contribution). Some (place_with own (f ++ after))) (sym front)
 
-  -- if it is none of these contributions and not the one after them, it is searched behind that one too
-  pub place_behind : (own next : List Contribution) → 1 ≤ length own → item ≡ get_or own 0 item → all ≡ done ++ own
-      → place_of sections all ≡ all_behind done (place_of sections own) → after_module item.module_name sections own ≡ None
+  -- if it is none of these contributions and not the one after them, the listing is searched after that one too
+  pub place_after : (own next : List Contribution) → 1 ≤ length own → item ≡ get_or own 0 item → all ≡ done ++ own
+      → place_of sections all ≡ with_others done (place_of sections own) → after_module item.module_name sections own ≡ None
       → next ≡ take (length own - 1) (drop 1 own)
-      → (more : List Contribution) × (all ≡ more ++ next) × (place_of sections all ≡ all_behind more (place_of sections next))
-  place_behind [] next some first whole so_far none rest_is = absurd (omega (arith, some))
-  place_behind (contribution ∷ rest) next some first whole so_far none rest_is =
+      → (more : List Contribution) × (all ≡ more ++ next) × (place_of sections all ≡ with_others more (place_of sections next))
+  place_after [] next some first whole so_far none rest_is = absurd (omega (arith, some))
+  place_after (contribution ∷ rest) next some first whole so_far none rest_is =
       let own : List Contribution = contribution ∷ rest in
       let to : Option (List Contribution) → Option Place =
-      λ r. elim r [ Some others ↦ Some (place_with own others) | None ↦ behind contribution (place_of sections rest) ] in
-      let here : place_of sections own ≡ behind contribution (place_of sections rest) =
+      λ r. elim r [ Some others ↦ Some (place_with own others) | None ↦ with_other contribution (place_of sections rest) ] in
+      let here : place_of sections own ≡ with_other contribution (place_of sections rest) =
       ap to (subst (λ (c : Contribution). after_module c.module_name sections own ≡ None) first none) in
       let next_is : next ≡ rest = rest_is ∙ take_all (length own - 1) rest (omega arith) in (
         done ++ contribution ∷ [],
         whole ∙ sym (append_assoc done (contribution ∷ []) rest)
             ∙ ap (λ (l : List Contribution). (done ++ contribution ∷ []) ++ l) (sym next_is),
-        so_far ∙ ap (all_behind done) here ∙ one_more_behind done contribution (place_of sections rest)
-            ∙ ap (λ (l : List Contribution). all_behind (done ++ contribution ∷ []) (place_of sections l)) (sym next_is),
+        so_far ∙ ap (with_others done) here ∙ one_more_other done contribution (place_of sections rest)
+            ∙ ap (λ (l : List Contribution). with_others (done ++ contribution ∷ []) (place_of sections l)) (sym next_is),
       )

@@ -7,3 +7,5 @@ pub mod FoundSymbols
 pub mod FoundContributions
 pub mod MapText
 pub mod Nearest
+pub mod Unnamed
+pub mod Shown

@@ -24,7 +24,7 @@ use Rattle.m11_base_disassembly.specs.Arguments.{operand_meant, words_of}
 use Rattle.m11_base_disassembly.specs.Instructions.{first_argument, named_row, location_after, operands_of, row_named, second_argument, size_by, size_of, statement_by, statement_of, words_after}
 use Rattle.m11_base_disassembly.specs.Meaning.{AreWords, IsMeant, Means, first_words, second_words}
 use Rattle.m11_base_disassembly.specs.Statements.{Nothing, Named}
-use Rattle.m11_base_disassembly.specs.Texts.{bare_name}
+use Rattle.m11_base_disassembly.specs.Names.{bare_name}
 
 -- ---- an instruction by its operation
 

@@ -12,7 +12,7 @@ use Rattle.m11_base.specs.Mnemonics.{operation_named}
 use Rattle.m11_base.specs.declared.instruction.Op.{Op}
 use Rattle.m11_base.specs.declared.instruction.Op.TheVariants as op
 use Rattle.m11_base.specs.declared.instruction_list.Row.{Row}
-use Rattle.m11_base_disassembly.specs.Texts.{bare_name}
+use Rattle.m11_base_disassembly.specs.Names.{bare_name}
 
 abbrev pub is_blank : Row → Bool
 is_blank row = slice_index row.name 0 == 32

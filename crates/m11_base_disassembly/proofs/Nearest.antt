@@ -3,7 +3,7 @@ use Rattle.std.proofs.Common.{◌≡◌, ◌∙◌, ℕ, ◌≤◌, Bool, true, 
 use Rattle.std.specs.List.{AllByRecursion}
 use Rattle.std.specs.Prelude.{◌&&◌, nat_le}
 use Rattle.std.proofs.lemmas.Bool.{cases_lt, le-leb, lt-leb}
-use Rattle.m11_base_disassembly.specs.Symbols.{IsBefore, IsBehind, IsNearest, IsOut, goes_before, nearer, nearest, order, reaches}
+use Rattle.m11_base_disassembly.specs.Symbols.{IsBefore, IsAfter, IsNearest, IsOut, goes_before, nearer, nearest, order, reaches}
 use Rattle.m11_base_disassembly.specs.declared.symbols.Symbol.{Symbol}
 
 -- ---- the order of symbols
@@ -44,7 +44,7 @@ module _ (address : ℕ) (symbol other : Symbol) (first : goes_before symbol oth
   before_after [] h = tt
   before_after (next ∷ after) h = (λ may. goes_on symbol other next first (h.0 may), before_after after h.1)
 
-  before_all : (before after : List Symbol) → AllByRecursion (IsBehind address other) before
+  before_all : (before after : List Symbol) → AllByRecursion (IsAfter address other) before
       → AllByRecursion (IsBefore address other) after → AllByRecursion (IsBefore address symbol) (before ++ other ∷ after)
   before_all [] after h k = (λ may. first, before_after after k)
   before_all (next ∷ before) after h k = (λ may. goes_past symbol other next first (h.0 may), before_all before after h.1 k)
@@ -58,10 +58,10 @@ module _ (address : ℕ) (symbol : Symbol) (symbols : List Symbol) where
   of_none false may h = (may, h)
 
   -- if the symbol in front may not name the address, or doesn't go before the nearest of the others, that one stays the nearest
-  of_later : (other : Symbol) → IsNearest address symbols (Some other) → IsBehind address other symbol
+  of_later : (other : Symbol) → IsNearest address symbols (Some other) → IsAfter address other symbol
       → IsNearest address (symbol ∷ symbols) (Some other)
-  of_later other h behind =
-      (symbol ∷ h.0, h.1, ap (λ (xs : List Symbol). symbol ∷ xs) h.2, h.3, (behind, h.4), h.5)
+  of_later other h after =
+      (symbol ∷ h.0, h.1, ap (λ (xs : List Symbol). symbol ∷ xs) h.2, h.3, (after, h.4), h.5)
 
   of_some : (other : Symbol) (may first : Bool) → reaches address symbol ≡ may → goes_before symbol other ≡ first
       → IsNearest address symbols (Some other) → IsNearest address (symbol ∷ symbols) (cond (may && first) (Some symbol) (Some other))

@@ -9,6 +9,7 @@ use Rattle.m11_base.specs.declared.operand.Register.TheVariants.{R0, R1, R2, R3,
 use Rattle.m11_base_disassembly.specs.Arguments.{argument, argument_by, by_counter, by_register, coded, distance, operand_meant, words_by, words_meant, words_of}
 use Rattle.m11_base_disassembly.specs.Instructions.{first_argument, location_after, second_argument}
 use Rattle.m11_base_disassembly.specs.Meaning.{AreWords, first_words, second_words}
+use Rattle.m11_base_disassembly.specs.Texts.{words_written}
 
 each_register : (P : Register → Type 0) → P R0 → P R1 → P R2 → P R3 → P R4 → P R5 → P Sp → P Pc → (r : Register) → P r
 each_register P a b c d e f g h R0 = a
@@ -92,6 +93,33 @@ few mode.Autodecrement r = omega arith
 few mode.AutodecrementDeferred r = omega arith
 few mode.Index r = omega arith
 few mode.IndexDeferred r = omega arith
+
+-- an operand as it is written has as many words as the operand from which it was written
+abbrev HasItsWords : Mode → Register → ℕ → ℕ → Type 0
+HasItsWords m r after word = words_written (argument_by m r after word) ≡ words_by m r
+
+words_counted : (m : Mode) (r : Register) (after word : ℕ) → HasItsWords m r after word
+words_counted mode.Register r after word =
+    each_register (λ (x : Register). HasItsWords mode.Register x after word) refl refl refl refl refl refl refl refl r
+words_counted mode.RegisterDeferred r after word =
+    each_register (λ (x : Register). HasItsWords mode.RegisterDeferred x after word) refl refl refl refl refl refl refl refl r
+words_counted mode.Autoincrement r after word =
+    each_register (λ (x : Register). HasItsWords mode.Autoincrement x after word) refl refl refl refl refl refl refl refl r
+words_counted mode.AutoincrementDeferred r after word =
+    each_register (λ (x : Register). HasItsWords mode.AutoincrementDeferred x after word) refl refl refl refl refl refl refl refl r
+words_counted mode.Autodecrement r after word =
+    each_register (λ (x : Register). HasItsWords mode.Autodecrement x after word) refl refl refl refl refl refl refl refl r
+words_counted mode.AutodecrementDeferred r after word =
+    each_register (λ (x : Register). HasItsWords mode.AutodecrementDeferred x after word) refl refl refl refl refl refl refl refl r
+words_counted mode.Index r after word =
+    each_register (λ (x : Register). HasItsWords mode.Index x after word) refl refl refl refl refl refl refl refl r
+words_counted mode.IndexDeferred r after word =
+    each_register (λ (x : Register). HasItsWords mode.IndexDeferred x after word) refl refl refl refl refl refl refl refl r
+
+pub words_written_are : (operand : Operand) (location : ℕ) (more : List ℕ)
+    → words_written (first_argument location more operand) ≡ words_of operand
+words_written_are operand location more =
+    words_counted operand.mode operand.register (location_after location 4) (slice_index more 0)
 
 -- ---- the words after the code
 

@@ -7,8 +7,10 @@ pub mod Listings
 pub mod MapFault
 pub mod Maps
 pub mod Meaning
+pub mod Names
 pub mod Numbers
 pub mod Places
+pub mod References
 pub mod Rows
 pub mod Statements
 pub mod Symbols

@@ -11,7 +11,7 @@ use Rattle.m11_base.specs.declared.instruction.Op.TheVariants as op
 use Rattle.m11_base_disassembly.specs.Arguments.{Argument, Plain, operand_meant, words_meant}
 use Rattle.m11_base_disassembly.specs.Instructions.{branch_target, location_after, loop_target}
 use Rattle.m11_base_disassembly.specs.Statements.{Operands, Nothing, One, Two, Target, Loop, Number, Statement, Named, DataWord, DataByte}
-use Rattle.m11_base_disassembly.specs.Texts.{bare_name}
+use Rattle.m11_base_disassembly.specs.Names.{bare_name}
 
 -- each number is a word
 abbrev pub AreWords : List ℕ → Type 0

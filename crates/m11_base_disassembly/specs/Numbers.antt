@@ -12,3 +12,7 @@ significant (digit ∷ digits) = if digit == 48 && nat_lt 0 (length digits) then
 -- a word in octal digits, without leading zeros
 abbrev pub number_text : ℕ → Bytes
 number_text word = significant (octal_text word)
+
+-- `+` and a distance in octal, or nothing if it is 0
+abbrev pub distance_text : ℕ → Bytes
+distance_text distance = if distance == 0 then [] else 43 ∷ number_text distance

@@ -51,9 +51,10 @@ pub record Place : Type 0 where
 abbrev pub place_with : List Contribution → List Contribution → Place
 place_with own others = record { own = own; others = others }
 
-abbrev pub behind : Contribution → Option Place → Option Place
-behind contribution None = None
-behind contribution (Some place) = Some (place_with place.own (contribution ∷ place.others))
+-- a place, with one more contribution in front of the others
+abbrev pub with_other : Contribution → Option Place → Option Place
+with_other contribution None = None
+with_other contribution (Some place) = Some (place_with place.own (contribution ∷ place.others))
 
 -- the place of a listing with these lines of sections: the first module whose contributions are those of its sections; None if there is none
 abbrev pub place_of : List Bytes → List Contribution → Option Place
@@ -61,7 +62,7 @@ place_of sections [] = None
 place_of sections (contribution ∷ others) =
     elim (after_module contribution.module_name sections (contribution ∷ others)) [
       | Some rest ↦ Some (place_with (contribution ∷ others) rest)
-      | None ↦ behind contribution (place_of sections others)
+      | None ↦ with_other contribution (place_of sections others)
     ]
 
 -- ---- the names in the listing

@@ -1,13 +1,17 @@
 //! Operands as they are written in a source.
 
-ghost use Rattle.std.specs.Prelude.{◌≡◌, ◌≤◌, ◌+◌, ◌++◌, length};
+ghost use Rattle.std.specs.Prelude.{◌≡◌, ◌≤◌, ◌+◌, ◌++◌, [], false, length};
 ghost use Rattle.arrayvec.specs.ArrayVec.{array_vec_len};
 ghost use Rattle.m11_base.specs.declared.operand.Mode.{Mode};
 ghost use Rattle.m11_base_disassembly.specs.Arguments.{argument, by_counter, by_register, words_of};
+ghost use Rattle.m11_base_disassembly.specs.Numbers.{number_text};
+ghost use Rattle.m11_base_disassembly.specs.References.{referred_or};
 ghost use Rattle.m11_base_disassembly.specs.Texts as spec;
 
 use crate::numbers::put_number;
+use crate::references::{Reference, put_address_or, put_number_or};
 use crate::source::{Source, put};
+use crate::symbols::Symbol;
 use m11_base::{Mode, Operand, Register};
 
 /// The name of a register.
@@ -29,28 +33,27 @@ pub(crate) fn register_text(register: Register) -> &'static [u8]
 
 // Adds the name of a register between two texts.
 fn put_between(line: &mut Source, first: &[u8], register: Register, last: &[u8])
-    requires room { array_vec_len line.old ≤ 30 }
-    requires first { length first.now ≤ 3 }
-    requires last { length last.now ≤ 2 }
+    requires { array_vec_len line.old + (length first.now + length last.now) ≤ 46 }
     ensures text { line.new.items ≡ line.old.items ++ spec.between first.now register last.now }
-    ensures room { array_vec_len line.new ≤ array_vec_len line.old + 7 }
+    ensures room { array_vec_len line.new ≤ array_vec_len line.old + (length first.now + length last.now) + 2 }
 {
     put(line, first);
     put(line, register_text(register));
     put(line, last);
 }
 
-// Adds an index, and a register in parentheses.
-fn put_index(line: &mut Source, number: u16, register: Register)
-    requires { array_vec_len line.old ≤ 24 }
-    ensures text { line.new.items ≡ line.old.items ++ spec.index_text number register }
-    ensures room { array_vec_len line.new ≤ array_vec_len line.old + 11 }
+// Adds an index, or what it refers to, and a register in parentheses.
+fn put_index(line: &mut Source, reference: &Option<Reference>, number: u16, register: Register)
+    requires { array_vec_len line.old ≤ 31 }
+    ensures text { line.new.items ≡ line.old.items
+        ++ spec.index_text (referred_or false reference.now (number_text number)) register }
+    ensures room { array_vec_len line.new ≤ array_vec_len line.old + 17 }
 {
-    put_number(line, number);
+    put_number_or(line, reference, number);
     put_between(line, b"(", register, b")");
 }
 
-/// Adds a text, and a word in octal after it.
+/// Adds a text, and after it a word in octal.
 pub(crate) fn put_prefixed(line: &mut Source, first: &[u8], number: u16)
     requires room { array_vec_len line.old ≤ 24 }
     requires first { length first.now ≤ 7 }
@@ -61,11 +64,18 @@ pub(crate) fn put_prefixed(line: &mut Source, first: &[u8], number: u16)
     put_number(line, number);
 }
 
-// Adds the operand with this mode and register. `word` is the word after the instruction's code, which only some modes use.
-fn put_by_register(line: &mut Source, mode: Mode, register: Register, word: u16)
-    requires { array_vec_len line.old ≤ 23 }
-    ensures text { line.new.items ≡ line.old.items ++ spec.argument_text (by_register mode register word) }
-    ensures room { array_vec_len line.new ≤ array_vec_len line.old + 12 }
+// Adds the operand with this mode and register. `word` is the word after the instruction's code, which only some modes use, and `reference`
+// what it refers to.
+fn put_by_register(
+    line: &mut Source,
+    reference: &Option<Reference>,
+    mode: Mode,
+    register: Register,
+    word: u16,
+)
+    requires { array_vec_len line.old ≤ 30 }
+    ensures text { line.new.items ≡ line.old.items ++ spec.argument_text [] reference.now (by_register mode register word) }
+    ensures room { array_vec_len line.new ≤ array_vec_len line.old + 18 }
 {
     match mode {
         Mode::Register => put(line, register_text(register)),
@@ -74,42 +84,67 @@ fn put_by_register(line: &mut Source, mode: Mode, register: Register, word: u16)
         Mode::AutoincrementDeferred => put_between(line, b"@(", register, b")+"),
         Mode::Autodecrement => put_between(line, b"-(", register, b")"),
         Mode::AutodecrementDeferred => put_between(line, b"@-(", register, b")"),
-        Mode::Index => put_index(line, word, register),
+        Mode::Index => put_index(line, reference, word, register),
         Mode::IndexDeferred => {
             put(line, b"@");
-            put_index(line, word, register);
+            put_index(line, reference, word, register);
         }
     }
 }
 
-// Adds the operand with this mode and the program counter. `word` is the operand's word after the code, if it has one, and `after` is the
-// location after that word.
-fn put_by_counter(line: &mut Source, mode: Mode, after: u16, word: u16)
-    requires { array_vec_len line.old ≤ 23 }
-    ensures text { line.new.items ≡ line.old.items ++ spec.argument_text (by_counter mode after word) }
-    ensures room { array_vec_len line.new ≤ array_vec_len line.old + 12 }
+// Adds the operand with this mode and the program counter. `word` is the operand's word after the code, if it has one, `reference` what it
+// refers to, and `after` the location after that word.
+fn put_by_counter(
+    line: &mut Source,
+    symbols: &[Symbol],
+    reference: &Option<Reference>,
+    mode: Mode,
+    after: u16,
+    word: u16,
+)
+    requires { array_vec_len line.old ≤ 30 }
+    ensures text { line.new.items ≡ line.old.items ++ spec.argument_text symbols.now reference.now (by_counter mode after word) }
+    ensures room { array_vec_len line.new ≤ array_vec_len line.old + 18 }
 {
     match mode {
-        Mode::Autoincrement => put_prefixed(line, b"#", word),
-        Mode::AutoincrementDeferred => put_prefixed(line, b"@#", word),
-        Mode::Index => put_number(line, after.wrapping_add(word)),
-        Mode::IndexDeferred => put_prefixed(line, b"@", after.wrapping_add(word)),
+        Mode::Autoincrement => {
+            put(line, b"#");
+            put_number_or(line, reference, word);
+        }
+        Mode::AutoincrementDeferred => {
+            put(line, b"@#");
+            put_address_or(line, symbols, false, reference, word);
+        }
+        Mode::Index => put_address_or(line, symbols, true, reference, after.wrapping_add(word)),
+        Mode::IndexDeferred => {
+            put(line, b"@");
+            put_address_or(line, symbols, true, reference, after.wrapping_add(word));
+        }
         Mode::Register
         | Mode::RegisterDeferred
         | Mode::Autodecrement
-        | Mode::AutodecrementDeferred => put_by_register(line, mode, Register::Pc, word),
+        | Mode::AutodecrementDeferred => put_by_register(line, reference, mode, Register::Pc, word),
     }
 }
 
-/// Adds an operand. `word` is its word after the code, if it has one, and `after` is the location after that word.
-pub(crate) fn put_argument(line: &mut Source, operand: Operand, after: u16, word: u16)
-    requires { array_vec_len line.old ≤ 23 }
-    ensures text { line.new.items ≡ line.old.items ++ spec.argument_text (argument operand after word) }
-    ensures room { array_vec_len line.new ≤ array_vec_len line.old + 12 }
+/// Adds an operand. `word` is its word after the code, if it has one, and `after` is the location after that word. `reference` is what the word
+/// refers to, and stands for it if it can; otherwise an address has its name, if these symbols have one for it.
+#[tactic(auto, using(crate::proofs::Unnamed::by_register_alone))]
+pub(crate) fn put_argument(
+    line: &mut Source,
+    symbols: &[Symbol],
+    reference: &Option<Reference>,
+    operand: Operand,
+    after: u16,
+    word: u16,
+)
+    requires { array_vec_len line.old ≤ 30 }
+    ensures text { line.new.items ≡ line.old.items ++ spec.argument_text symbols.now reference.now (argument operand after word) }
+    ensures room { array_vec_len line.new ≤ array_vec_len line.old + 18 }
 {
     match operand.register {
-        Register::Pc => put_by_counter(line, operand.mode, after, word),
-        register => put_by_register(line, operand.mode, register, word),
+        Register::Pc => put_by_counter(line, symbols, reference, operand.mode, after, word),
+        register => put_by_register(line, reference, operand.mode, register, word),
     }
 }
 

@@ -1,17 +1,21 @@
 //! Lines of source for instructions and for data.
 
-ghost use Rattle.std.specs.Prelude.{◌≡◌, ◌≤◌, ◌<◌, ◌+◌, ◌++◌, ◌∷◌, length, slice_index};
+ghost use Rattle.std.specs.Prelude.{◌≡◌, ◌≤◌, ◌<◌, ◌+◌, ◌++◌, ◌∷◌, [], length, slice_index};
 ghost use Rattle.arrayvec.specs.ArrayVec.{array_vec_len};
 ghost use Rattle.m11_base.specs.Instructions.{instruction_of};
 ghost use Rattle.m11_base_disassembly.specs.Instructions as spec;
 ghost use Rattle.m11_base_disassembly.specs.Statements.{DataByte, DataWord, Named};
-ghost use Rattle.m11_base_disassembly.specs.Numbers.{number_text};
-ghost use Rattle.m11_base_disassembly.specs.Texts.{argument_text, register_text, statement_text};
+ghost use Rattle.m11_base_disassembly.specs.Arguments.{words_of};
+ghost use Rattle.m11_base_disassembly.specs.References.{no_references, reference_after};
+ghost use Rattle.m11_base_disassembly.specs.Symbols.{address_text};
+ghost use Rattle.m11_base_disassembly.specs.Texts.{argument_text, register_text, statement_text, words_written};
 
 use crate::arguments::{put_argument, put_prefixed, register_text, words_of};
 use crate::names::{put_bare_name, put_name, row_named};
 use crate::numbers::put_number;
+use crate::references::{References, reference_after};
 use crate::source::{Source, put};
+use crate::symbols::{Symbol, put_address};
 use m11_base::{Insn, Operand, Register, Row, decode};
 
 /// A line of source, and the number of words that it was made from.
@@ -70,24 +74,50 @@ fn words_after(instruction: &Insn) -> usize
 }
 
 // Adds the first operand. Its word, if it has one, is the first after the code.
-fn put_first(line: &mut Source, location: u16, more: &[u16], operand: Operand)
-    requires { array_vec_len line.old ≤ 23 }
-    ensures text { line.new.items ≡ line.old.items ++ argument_text (spec.first_argument location more.now operand) }
-    ensures room { array_vec_len line.new ≤ array_vec_len line.old + 12 }
+fn put_first(
+    line: &mut Source,
+    symbols: &[Symbol],
+    references: &References,
+    location: u16,
+    more: &[u16],
+    operand: Operand,
+)
+    requires { array_vec_len line.old ≤ 30 }
+    ensures text { line.new.items ≡ line.old.items
+        ++ argument_text symbols.now references.now.first (spec.first_argument location more.now operand) }
+    ensures room { array_vec_len line.new ≤ array_vec_len line.old + 18 }
 {
-    put_argument(line, operand, location.wrapping_add(4), word_at(more, 0));
+    put_argument(
+        line,
+        symbols,
+        &references.first,
+        operand,
+        location.wrapping_add(4),
+        word_at(more, 0),
+    );
 }
 
 // Adds the second operand. Its word, if it has one, follows the code and any word of the first operand.
-fn put_second(line: &mut Source, location: u16, more: &[u16], first: Operand, operand: Operand)
-    requires { array_vec_len line.old ≤ 23 }
+fn put_second(
+    line: &mut Source,
+    symbols: &[Symbol],
+    references: &References,
+    location: u16,
+    more: &[u16],
+    first: Operand,
+    operand: Operand,
+)
+    requires { array_vec_len line.old ≤ 30 }
     ensures text { line.new.items ≡ line.old.items
-        ++ argument_text (spec.second_argument location more.now first operand) }
-    ensures room { array_vec_len line.new ≤ array_vec_len line.old + 12 }
+        ++ argument_text symbols.now (reference_after (words_of first) references.now)
+        (spec.second_argument location more.now first operand) }
+    ensures room { array_vec_len line.new ≤ array_vec_len line.old + 18 }
 {
     let before = words_of(first);
     put_argument(
         line,
+        symbols,
+        &reference_after(before, references),
         operand,
         location.wrapping_add(4 + 2 * before as u16),
         word_at(more, before),
@@ -96,7 +126,7 @@ fn put_second(line: &mut Source, location: u16, more: &[u16], first: Operand, op
 
 // The line of source for a word of data.
 fn word_source(word: u16) -> Source
-    ensures { result.items ≡ statement_text (DataWord word) }
+    ensures { result.items ≡ statement_text [] no_references (DataWord word) }
 {
     let mut line = Source::new();
     put_prefixed(&mut line, b".WORD  ", word);
@@ -105,7 +135,7 @@ fn word_source(word: u16) -> Source
 
 /// The line of source for a byte of data.
 pub fn byte_source(byte: u8) -> Source
-    ensures { result.items ≡ statement_text (DataByte byte) }
+    ensures { result.items ≡ statement_text [] no_references (DataByte byte) }
 {
     let mut line = Source::new();
     put_prefixed(&mut line, b".BYTE  ", u16::from(byte));
@@ -113,26 +143,52 @@ pub fn byte_source(byte: u8) -> Source
 }
 
 // Adds the operands of a double-operand instruction.
-fn put_double(line: &mut Source, location: u16, more: &[u16], source: Operand, destination: Operand)
-    requires { array_vec_len line.old ≤ 10 }
+#[tactic(auto, using(crate::proofs::Written::words_written_are))]
+fn put_double(
+    line: &mut Source,
+    symbols: &[Symbol],
+    references: &References,
+    location: u16,
+    more: &[u16],
+    source: Operand,
+    destination: Operand,
+)
+    requires { array_vec_len line.old ≤ 11 }
     ensures text { line.new.items ≡ line.old.items
-        ++ (argument_text (spec.first_argument location more.now source)
-        ++ 44 ∷ argument_text (spec.second_argument location more.now source destination)) }
-    ensures room { array_vec_len line.new ≤ array_vec_len line.old + 25 }
+        ++ (argument_text symbols.now references.now.first (spec.first_argument location more.now source)
+        ++ 44 ∷ argument_text symbols.now (reference_after (words_written (spec.first_argument location more.now source)) references.now)
+        (spec.second_argument location more.now source destination)) }
+    ensures room { array_vec_len line.new ≤ array_vec_len line.old + 37 }
 {
-    put_first(line, location, more, source);
+    put_first(line, symbols, references, location, more, source);
     put(line, b",");
-    put_second(line, location, more, source, destination);
+    put_second(
+        line,
+        symbols,
+        references,
+        location,
+        more,
+        source,
+        destination,
+    );
 }
 
 // Adds the operands of an instruction that has an operand and then a register.
-fn put_extended(line: &mut Source, location: u16, more: &[u16], register: Register, source: Operand)
-    requires { array_vec_len line.old ≤ 10 }
+fn put_extended(
+    line: &mut Source,
+    symbols: &[Symbol],
+    references: &References,
+    location: u16,
+    more: &[u16],
+    register: Register,
+    source: Operand,
+)
+    requires { array_vec_len line.old ≤ 11 }
     ensures text { line.new.items ≡ line.old.items
-        ++ (argument_text (spec.first_argument location more.now source) ++ 44 ∷ register_text register) }
-    ensures room { array_vec_len line.new ≤ array_vec_len line.old + 25 }
+        ++ (argument_text symbols.now references.now.first (spec.first_argument location more.now source) ++ 44 ∷ register_text register) }
+    ensures room { array_vec_len line.new ≤ array_vec_len line.old + 37 }
 {
-    put_first(line, location, more, source);
+    put_first(line, symbols, references, location, more, source);
     put(line, b",");
     put(line, register_text(register));
 }
@@ -140,30 +196,32 @@ fn put_extended(line: &mut Source, location: u16, more: &[u16], register: Regist
 // Adds the operands of an instruction that has a register and then an operand.
 fn put_with_register(
     line: &mut Source,
+    symbols: &[Symbol],
+    references: &References,
     location: u16,
     more: &[u16],
     register: Register,
     destination: Operand,
 )
-    requires { array_vec_len line.old ≤ 10 }
+    requires { array_vec_len line.old ≤ 11 }
     ensures text { line.new.items ≡ line.old.items
-        ++ (register_text register ++ 44 ∷ argument_text (spec.first_argument location more.now destination)) }
-    ensures room { array_vec_len line.new ≤ array_vec_len line.old + 25 }
+        ++ (register_text register ++ 44 ∷ argument_text symbols.now references.now.first (spec.first_argument location more.now destination)) }
+    ensures room { array_vec_len line.new ≤ array_vec_len line.old + 37 }
 {
     put(line, register_text(register));
     put(line, b",");
-    put_first(line, location, more, destination);
+    put_first(line, symbols, references, location, more, destination);
 }
 
 // Adds the operands of SOB: a register, and the address of the target.
-fn put_loop(line: &mut Source, register: Register, address: u16)
-    requires { array_vec_len line.old ≤ 10 }
-    ensures text { line.new.items ≡ line.old.items ++ (register_text register ++ 44 ∷ number_text address) }
-    ensures room { array_vec_len line.new ≤ array_vec_len line.old + 25 }
+fn put_loop(line: &mut Source, symbols: &[Symbol], register: Register, address: u16)
+    requires { array_vec_len line.old ≤ 11 }
+    ensures text { line.new.items ≡ line.old.items ++ (register_text register ++ 44 ∷ address_text symbols.now address) }
+    ensures room { array_vec_len line.new ≤ array_vec_len line.old + 37 }
 {
     put(line, register_text(register));
     put(line, b",");
-    put_number(line, address);
+    put_address(line, symbols, address);
 }
 
 // The offset of a branch: the number of words from the next instruction to the target. It is 0 for any other instruction.
@@ -184,31 +242,55 @@ fn target_of(location: u16, instruction: Insn) -> u16
 }
 
 // Adds the name and the operands of an instruction.
-fn put_named(line: &mut Source, name: &[u8; 6], location: u16, more: &[u16], instruction: Insn)
-    requires { array_vec_len line.old ≤ 3 }
+fn put_named(
+    line: &mut Source,
+    symbols: &[Symbol],
+    references: &References,
+    name: &[u8; 6],
+    location: u16,
+    more: &[u16],
+    instruction: Insn,
+)
+    requires { array_vec_len line.old ≤ 4 }
     ensures { line.new.items ≡ line.old.items
-        ++ statement_text (Named name.now (spec.operands_of location more.now instruction)) }
+        ++ statement_text symbols.now references.now (Named name.now (spec.operands_of location more.now instruction)) }
 {
     match instruction {
         Insn::Double(_, _, source, destination) => {
             put_name(line, name);
-            put_double(line, location, more, source, destination);
+            put_double(
+                line,
+                symbols,
+                references,
+                location,
+                more,
+                source,
+                destination,
+            );
         }
         Insn::Extended(_, register, source) => {
             put_name(line, name);
-            put_extended(line, location, more, register, source);
+            put_extended(line, symbols, references, location, more, register, source);
         }
         Insn::Register(_, register, destination) => {
             put_name(line, name);
-            put_with_register(line, location, more, register, destination);
+            put_with_register(
+                line,
+                symbols,
+                references,
+                location,
+                more,
+                register,
+                destination,
+            );
         }
         Insn::Sob(register, count) => {
             put_name(line, name);
-            put_loop(line, register, loop_target(location, count));
+            put_loop(line, symbols, register, loop_target(location, count));
         }
         Insn::Single(_, _, operand) => {
             put_name(line, name);
-            put_first(line, location, more, operand);
+            put_first(line, symbols, references, location, more, operand);
         }
         Insn::Rts(register) => {
             put_name(line, name);
@@ -220,18 +302,33 @@ fn put_named(line: &mut Source, name: &[u8; 6], location: u16, more: &[u16], ins
         }
         Insn::Branch(..) => {
             put_name(line, name);
-            put_number(line, target_of(location, instruction));
+            put_address(line, symbols, target_of(location, instruction));
         }
         Insn::Bare(_) | Insn::Condition(..) | Insn::Reserved(_) => put_bare_name(line, name),
     }
 }
 
 // The line of an instruction with this name.
-fn named_source(name: &[u8; 6], location: u16, more: &[u16], instruction: Insn) -> Source
-    ensures { result.items ≡ statement_text (Named name.now (spec.operands_of location more.now instruction)) }
+fn named_source(
+    symbols: &[Symbol],
+    references: &References,
+    name: &[u8; 6],
+    location: u16,
+    more: &[u16],
+    instruction: Insn,
+) -> Source
+    ensures { result.items ≡ statement_text symbols.now references.now (Named name.now (spec.operands_of location more.now instruction)) }
 {
     let mut line = Source::new();
-    put_named(&mut line, name, location, more, instruction);
+    put_named(
+        &mut line,
+        symbols,
+        references,
+        name,
+        location,
+        more,
+        instruction,
+    );
     line
 }
 
@@ -248,9 +345,18 @@ fn whole_row(word: u16, more: &[u16]) -> Option<Row>
 
 /// The line of source for the word at this location and the words `more` that follow it, of which at most two are used. The line is the
 /// instruction with this code; or a word of data if the code has no name or `more` lacks a word of the instruction. Assembled at this
-/// location of an absolute section, the line yields exactly the words that it was made from.
-pub fn disassembled(location: u16, word: u16, more: &[u16]) -> Disassembly
-    ensures source { result.source.items ≡ statement_text (spec.statement_of location word more.now) }
+/// location of an absolute section, the line yields exactly the words that it was made from, if the symbols have these values there. An
+/// operand that is an address, and the target of a branch, is written as the nearest symbol and the distance from there, if that symbol's
+/// section is known or its value is the address; otherwise in octal, as are numbers after `#`, and indexes. But a word of an operand with a
+/// reference is written as what it refers to, if both are relative or neither is.
+pub fn disassembled(
+    symbols: &[Symbol],
+    references: &References,
+    location: u16,
+    word: u16,
+    more: &[u16],
+) -> Disassembly
+    ensures source { result.source.items ≡ statement_text symbols.now references.now (spec.statement_of location word more.now) }
     ensures words { result.words ≡ spec.size_of word more.now }
     ensures some { 0 < result.words }
     ensures there { result.words ≤ 1 + length more.now }
@@ -259,7 +365,7 @@ pub fn disassembled(location: u16, word: u16, more: &[u16]) -> Disassembly
         Some(row) => {
             let instruction = decode(word);
             Disassembly {
-                source: named_source(&row.name, location, more, instruction),
+                source: named_source(symbols, references, &row.name, location, more, instruction),
                 words: 1 + words_after(&instruction),
             }
         }

@@ -5,7 +5,7 @@ ghost use Rattle.m11_base.specs.Octal.{octal_value};
 ghost use Rattle.m11_base_disassembly.specs.Instructions.{size_of, statement_of};
 ghost use Rattle.m11_base_disassembly.specs.Meaning.{AreWords, IsMeant};
 ghost use Rattle.m11_base_disassembly.specs.Numbers.{number_text};
-ghost use Rattle.m11_base_disassembly.specs.Symbols.{IsNearest, nearest};
+ghost use Rattle.m11_base_disassembly.specs.Symbols.{IsNearest, ShowsAddress, address_text, nearest};
 ghost use Rattle.m11_base_disassembly.specs.declared.symbols.Symbol.{Symbol};
 
 /// The line of source for words at a location assembles there to exactly the words that it was made from. Either it is a word of data, or
@@ -23,4 +23,10 @@ pub fn a_line_means_its_words()
 /// these it has the greatest value; and of these it is the first. An address has no name if no symbol may name it.
 pub fn an_address_has_the_nearest_name()
     ensures { (address : ℕ) (symbols : List Symbol) → IsNearest address symbols (nearest address symbols) }
+{}
+
+/// An address in an operand is shown by its nearest symbol and the distance from there, which together are the address, or in octal.
+#[tactic(auto, using(crate::proofs::Shown::address_shown))]
+pub fn an_operand_shows_its_address()
+    ensures { (address : ℕ) (symbols : List Symbol) → ShowsAddress symbols address (address_text symbols address) }
 {}

@@ -4,12 +4,14 @@
 //! text of a file of names and for these names.
 #![tactic(auto)]
 
-// Line buffers, and the parts of a line: names of operations, numbers and operands.
+// Line buffers, and the parts of a line: names of operations, numbers, references and operands.
 mod arguments;
 mod names;
 mod numbers;
+mod references;
 mod source;
 
+pub use references::{Reference, References, no_references};
 pub use source::Source;
 
 // The lines of instructions and of data.
@@ -31,9 +33,12 @@ mod symbols;
 pub use contributions::Contribution;
 pub use map_fault::MapFault;
 pub use maps::{NamesSoFar, read_text};
-pub use symbols::{Scope, Symbol, address_name};
+pub use symbols::{Scope, Symbol, address_name, value_named};
 
-// The laws that an assembler produces the same words from a line, and that a name is the nearest one.
+// The laws that an assembler produces the same words from a line, that a name is the nearest one, and that a name in an operand is its
+// address.
 mod laws;
 
-pub use laws::{a_line_means_its_words, an_address_has_the_nearest_name};
+pub use laws::{
+    a_line_means_its_words, an_address_has_the_nearest_name, an_operand_shows_its_address,
+};

@@ -1,13 +1,15 @@
-//! The names of operations, by their codes.
+//! The names of operations, by their codes, and how names are written.
 
 ghost use Rattle.std.specs.Prelude.{◌≡◌, ◌≤◌, ◌+◌, ◌++◌, find, length};
+ghost use Rattle.std.specs.Str.{bytes_eq};
 ghost use Rattle.arrayvec.specs.ArrayVec.{array_vec_len};
 ghost use Rattle.m11_base.specs.Instructions.{is_of, other_names, row_of};
 ghost use Rattle.m11_base_disassembly.specs.Instructions.{named_row, row_named};
-ghost use Rattle.m11_base_disassembly.specs.Texts as spec;
+ghost use Rattle.m11_base_disassembly.specs.Names.{bare_name, is_written};
+ghost use Rattle.m11_base_disassembly.specs.Texts.{name_text};
 
 use crate::source::{Source, put};
-use m11_base::{Row, other_names, rows};
+use m11_base::{Name, Row, other_names, rows};
 
 // The row of the list that a word matches, if there is one.
 fn row(word: u16) -> Option<Row>
@@ -46,8 +48,8 @@ pub(crate) fn row_named(word: u16) -> Option<Row>
 
 /// Adds a name up to its first space.
 pub(crate) fn put_bare_name(line: &mut Source, name: &[u8])
-    requires { array_vec_len line.old + length name.now ≤ 40 }
-    ensures text { line.new.items ≡ line.old.items ++ spec.bare_name name.now }
+    requires { array_vec_len line.old + length name.now ≤ 48 }
+    ensures text { line.new.items ≡ line.old.items ++ bare_name name.now }
     ensures room { array_vec_len line.new ≤ array_vec_len line.old + length name.now }
 {
     match name {
@@ -61,10 +63,30 @@ pub(crate) fn put_bare_name(line: &mut Source, name: &[u8])
 
 /// Adds a name of six characters, padded with spaces, and one more space.
 pub(crate) fn put_name(line: &mut Source, name: &[u8; 6])
-    requires { array_vec_len line.old ≤ 33 }
-    ensures text { line.new.items ≡ line.old.items ++ spec.name_text name.now }
+    requires { array_vec_len line.old ≤ 41 }
+    ensures text { line.new.items ≡ line.old.items ++ name_text name.now }
     ensures room { array_vec_len line.new ≤ array_vec_len line.old + 7 }
 {
     put(line, name);
     put(line, b" ");
+}
+
+/// Whether a name can be written: it doesn't begin with a space.
+pub(crate) fn is_written(name: Name) -> bool
+    ensures { result ≡ is_written name }
+{
+    name.characters()[0] != b' '
+}
+
+/// Whether a name up to its first space is this text.
+pub(crate) fn is_bare(name: &[u8], text: &[u8]) -> bool
+    ensures { result ≡ bytes_eq (bare_name name.now) text.now }
+{
+    match (name, text) {
+        ([character, others @ ..], [first, more @ ..]) if *character != b' ' => {
+            character == first && is_bare(others, more)
+        }
+        ([character, ..], _) if *character != b' ' => false,
+        _ => text.is_empty(),
+    }
 }

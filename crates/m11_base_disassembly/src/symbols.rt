@@ -1,11 +1,11 @@
-//! The names of addresses.
+//! The names of addresses, alone and in operands.
 
 ghost use Rattle.std.specs.Prelude.{◌≡◌, ◌≤◌, ◌+◌, ◌++◌, length};
 ghost use Rattle.arrayvec.specs.ArrayVec.{array_vec_len};
 ghost use Rattle.m11_base_disassembly.specs.Symbols as spec;
 
-use crate::names::put_bare_name;
-use crate::numbers::put_number;
+use crate::names::{is_bare, is_written, put_bare_name};
+use crate::numbers::{put_distance, put_number};
 use crate::source::{Source, put};
 use m11_base::Name;
 
@@ -98,30 +98,14 @@ fn nearest(address: u16, symbols: &[Symbol]) -> Option<Symbol>
     best
 }
 
-// Adds `+` and a distance in octal, or nothing if it is 0.
-fn put_distance(line: &mut Source, distance: u16)
-    requires { array_vec_len line.old ≤ 30 }
-    ensures items { line.new.items ≡ line.old.items ++ spec.distance_text distance }
-    ensures size { array_vec_len line.new ≤ array_vec_len line.old + 7 }
+// Adds a symbol, and the distance of an address from it.
+fn put_name_from(line: &mut Source, symbol: &Symbol, address: u16)
+    requires { array_vec_len line.old ≤ 35 }
+    ensures items { line.new.items ≡ line.old.items ++ spec.name_from symbol.now address }
+    ensures size { array_vec_len line.new ≤ array_vec_len line.old + 13 }
 {
-    if distance != 0 {
-        put(line, b"+");
-        put_number(line, distance);
-    }
-}
-
-// Adds a prefix and the name of an address; nothing if the address has no name.
-fn put_name_after(line: &mut Source, first: &[u8], nearest: Option<Symbol>, address: u16)
-    requires first { length first.now ≤ 2 }
-    requires room { array_vec_len line.old ≤ 20 }
-    ensures items { line.new.items ≡ line.old.items ++ spec.name_after first.now nearest address }
-    ensures size { array_vec_len line.new ≤ array_vec_len line.old + (length first.now + 13) }
-{
-    if let Some(symbol) = nearest {
-        put(line, first);
-        put_bare_name(line, &symbol.name.characters());
-        put_distance(line, address.saturating_sub(symbol.value));
-    }
+    put_bare_name(line, &symbol.name.characters());
+    put_distance(line, address.saturating_sub(symbol.value));
 }
 
 /// The name of an address after a prefix of at most two characters: the nearest symbol at or below it, and the distance from there
@@ -133,6 +117,55 @@ pub fn address_name(first: &[u8], symbols: &[Symbol], address: u16) -> Source
     ensures size { array_vec_len result ≤ length first.now + 13 }
 {
     let mut line = Source::new();
-    put_name_after(&mut line, first, nearest(address, symbols), address);
+    if let Some(symbol) = nearest(address, symbols) {
+        put(&mut line, first);
+        put_name_from(&mut line, &symbol, address);
+    }
     line
+}
+
+// Whether a symbol may stand for an address in an operand: its name can be written, and its section is known or its value is the address.
+fn stands_for(address: u16, symbol: &Symbol) -> bool
+    ensures { result ≡ spec.stands_for address symbol.now }
+{
+    let is_placed = match symbol.scope {
+        Scope::Unknown => false,
+        Scope::Label(_) | Scope::Section(_) => true,
+    };
+    is_written(symbol.name) && (is_placed || symbol.value == address)
+}
+
+/// Adds an address as an operand shows it: its nearest symbol and the distance from there, if that symbol may stand for it, and otherwise the
+/// address in octal.
+pub(crate) fn put_address(line: &mut Source, symbols: &[Symbol], address: u16)
+    requires { array_vec_len line.old ≤ 35 }
+    ensures text { line.new.items ≡ line.old.items ++ spec.address_text symbols.now address }
+    ensures room { array_vec_len line.new ≤ array_vec_len line.old + 13 }
+{
+    match nearest(address, symbols) {
+        Some(symbol) if stands_for(address, &symbol) => put_name_from(line, &symbol, address),
+        _ => put_number(line, address),
+    }
+}
+
+// Whether a symbol has this name, as it is written.
+fn is_called(symbol: &Symbol, name: &[u8]) -> bool
+    ensures { result ≡ spec.is_called name.now symbol.now }
+{
+    is_bare(&symbol.name.characters(), name)
+}
+
+/// The value of the first symbol with this name, such as `PUTS`; `None` if no symbol has it.
+pub fn value_named(symbols: &[Symbol], name: &[u8]) -> Option<u16>
+    ensures { result ≡ spec.value_named name.now symbols.now }
+{
+    let mut found = None;
+    let mut rest = symbols;
+    'symbols: while let [others @ .., symbol] = rest {
+        if is_called(symbol, name) {
+            found = Some(symbol.value);
+        }
+        rest = others;
+    }
+    found
 }

@@ -1,17 +1,18 @@
 -- Lines of instructions with relocations after the bytes that they apply to, one byte after another.
 use Rattle.std.proofs.Common.{◌≡◌, ◌∙◌, ℕ, zero, suc, ◌+◌, ◌-◌, ◌<◌, ◌≤◌, List, [], ◌∷◌, ◌++◌, append_assoc, drop, length, refl, sym, ap, take, arith}
 use Rattle.std.proofs.lemmas.List.{drop-append-le, drop-drop, length-drop, length-take-le, take-append-drop, take_all}
+use Rattle.m11_base_disassembly.specs.declared.references.References.{References}
 use Rattle.m11_dump.specs.Beside.{left_at, line_at, lines_beside}
 use Rattle.m11_dump.specs.Instructions.{over_from}
 use Rattle.m11_dump.specs.Octets.{location_after}
 
 -- the lines of some bytes are the line that begins with the first byte, the other lines for that byte, and the lines of the bytes after it
-first_beside : (others : ℕ → List ℕ) (address index shown : ℕ) (bytes beyond : List ℕ) → 0 < length bytes
-    → lines_beside others address index shown bytes beyond
-    ≡ line_at (location_after address index) shown (bytes ++ beyond) ++ (others index ++ lines_beside others address (index + 1)
+first_beside : (references : ℕ → References) (others : ℕ → List ℕ) (address index shown : ℕ) (bytes beyond : List ℕ) → 0 < length bytes
+    → lines_beside references others address index shown bytes beyond
+    ≡ line_at (references index) (location_after address index) shown (bytes ++ beyond) ++ (others index ++ lines_beside references others address (index + 1)
     (left_at (location_after address index) shown (bytes ++ beyond)) (drop 1 bytes) beyond)
-first_beside others address index shown [] beyond some = absurd (omega (arith, some))
-first_beside others address index shown (byte ∷ bytes) beyond some = refl
+first_beside references others address index shown [] beyond some = absurd (omega (arith, some))
+first_beside references others address index shown (byte ∷ bytes) beyond some = refl
 
 over_beside : (address index shown : ℕ) (bytes beyond : List ℕ) → 0 < length bytes → over_from address index shown bytes beyond
     ≡ over_from address (index + 1) (left_at (location_after address index) shown (bytes ++ beyond)) (drop 1 bytes) beyond
@@ -46,26 +47,26 @@ module _ (bytes : List ℕ) (address own index : ℕ) (there : own ≤ length by
   dropped : drop 1 (drop index mine) ≡ drop (index + 1) mine
   dropped = drop_one index mine
 
-  module _ (others : ℕ → List ℕ) (shown left : ℕ)
+  module _ (references : ℕ → References) (others : ℕ → List ℕ) (shown left : ℕ)
       (left_at_is : left ≡ left_at location shown (take (length bytes - index) (drop index bytes))) where
     left_here : left ≡ left_at (location_after address index) shown (drop index mine ++ beyond)
     left_here = left_at_is ∙ ap (λ (p : ℕ). left_at p shown (take (length bytes - index) (drop index bytes))) at
         ∙ ap (λ (l : List ℕ). left_at (location_after address index) shown l) left_is
 
-    pub byte_beside : (all now middle later : List ℕ) → now ++ lines_beside others address index shown (drop index mine) beyond ≡ all
-        → middle ≡ now ++ line_at location shown (take (length bytes - index) (drop index bytes)) → later ≡ middle ++ others index
-        → later ++ lines_beside others address (index + 1) left (drop (index + 1) mine) beyond ≡ all
+    pub byte_beside : (all now middle later : List ℕ) → now ++ lines_beside references others address index shown (drop index mine) beyond ≡ all
+        → middle ≡ now ++ line_at (references index) location shown (take (length bytes - index) (drop index bytes)) → later ≡ middle ++ others index
+        → later ++ lines_beside references others address (index + 1) left (drop (index + 1) mine) beyond ≡ all
     byte_beside all now middle later leads line_is others_is =
-        let line = line_at (location_after address index) shown (drop index mine ++ beyond) in
-        let rest = lines_beside others address (index + 1) left (drop (index + 1) mine) beyond in
-        let same : line_at location shown (take (length bytes - index) (drop index bytes)) ≡ line =
-        ap (λ (p : ℕ). line_at p shown (take (length bytes - index) (drop index bytes))) at
-        ∙ ap (λ (l : List ℕ). line_at (location_after address index) shown l) left_is in
-        let first : lines_beside others address index shown (drop index mine) beyond ≡ line ++ (others index ++ rest) =
-        first_beside others address index shown (drop index mine) beyond some
-        ∙ ap (λ (n : ℕ). line ++ (others index ++ lines_beside others address (index + 1) n (drop 1 (drop index mine)) beyond))
+        let line = line_at (references index) (location_after address index) shown (drop index mine ++ beyond) in
+        let rest = lines_beside references others address (index + 1) left (drop (index + 1) mine) beyond in
+        let same : line_at (references index) location shown (take (length bytes - index) (drop index bytes)) ≡ line =
+        ap (λ (p : ℕ). line_at (references index) p shown (take (length bytes - index) (drop index bytes))) at
+        ∙ ap (λ (l : List ℕ). line_at (references index) (location_after address index) shown l) left_is in
+        let first : lines_beside references others address index shown (drop index mine) beyond ≡ line ++ (others index ++ rest) =
+        first_beside references others address index shown (drop index mine) beyond some
+        ∙ ap (λ (n : ℕ). line ++ (others index ++ lines_beside references others address (index + 1) n (drop 1 (drop index mine)) beyond))
         (sym left_here)
-        ∙ ap (λ (l : List ℕ). line ++ (others index ++ lines_beside others address (index + 1) left l beyond)) dropped in
+        ∙ ap (λ (l : List ℕ). line ++ (others index ++ lines_beside references others address (index + 1) left l beyond)) dropped in
         ap (λ (t : List ℕ). t ++ rest) (others_is ∙ ap (λ (t : List ℕ). t ++ others index) (line_is ∙ ap (λ (t : List ℕ). now ++ t) same))
         ∙ append_assoc (now ++ line) (others index) rest
         ∙ append_assoc now line (others index ++ rest)

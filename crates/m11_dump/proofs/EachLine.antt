@@ -6,15 +6,17 @@ use Rattle.std.proofs.lemmas.List.{length-take-le, take-append-drop}
 use Rattle.m11_base.specs.Instructions.{instruction_of}
 use Rattle.m11_base.specs.declared.instruction_list.Row.{Row}
 use Rattle.m11_base_disassembly.specs.Instructions.{row_named, size_by, size_of, words_after}
+use Rattle.m11_base_disassembly.specs.References.{no_references}
 use Rattle.m11_base_disassembly.specs.Texts.{statement_text}
+use Rattle.m11_base_disassembly.specs.declared.references.References.{References}
 use Rattle.m11_base_disassembly.specs.declared.symbols.Symbol.{Symbol}
 use Rattle.m11_dump.specs.Octets.{location_after}
 use Rattle.m11_dump.specs.Instructions.{AreLines, following, front_size, front_source, front_statement, line_by, line_text, lines, lines_from, over_from, word_of}
 
 -- ---- the source of a line without a name
 
-pub statement_alone : (location : ℕ) (bytes : List ℕ) → front_source [] location bytes ≡ statement_text (front_statement location bytes)
-statement_alone location bytes = append-nil (statement_text (front_statement location bytes))
+pub statement_alone : (location : ℕ) (bytes : List ℕ) → front_source [] no_references location bytes ≡ statement_text [] no_references (front_statement location bytes)
+statement_alone location bytes = append-nil (statement_text [] no_references (front_statement location bytes))
 
 -- ---- how many bytes a line shows
 
@@ -81,12 +83,12 @@ module _ (address : ℕ) (beyond : List ℕ) where
       (omega (arith, within.0, within.1, length-append bytes beyond))
   over_most index (suc shown) (byte ∷ bytes) most = over_most (index + 1) shown bytes (omega (arith, most))
 
-  gathered : (symbols : List Symbol) (index shown at : ℕ) (bytes : List ℕ) → at ≡ index + shown → (all : List (List ℕ))
+  gathered : (symbols : List Symbol) (references : ℕ → References) (index shown at : ℕ) (bytes : List ℕ) → at ≡ index + shown → (all : List (List ℕ))
       × AreLines address at all (drop shown (bytes ++ take (over_from address index shown bytes beyond) beyond))
-      (lines_from symbols address index shown bytes beyond)
-  gathered symbols index shown at [] is = ([], (emptied shown beyond, refl))
-  gathered symbols index (suc shown) at (byte ∷ bytes) is = gathered symbols (index + 1) shown at bytes (omega (arith, is))
-  gathered symbols index zero at (byte ∷ bytes) is =
+      (lines_from symbols references address index shown bytes beyond)
+  gathered symbols references index shown at [] is = ([], (emptied shown beyond, refl))
+  gathered symbols references index (suc shown) at (byte ∷ bytes) is = gathered symbols references (index + 1) shown at bytes (omega (arith, is))
+  gathered symbols references index zero at (byte ∷ bytes) is =
       let location = location_after address index in
       let following : List ℕ = bytes ++ beyond in
       let size = front_size location (byte ∷ following) in
@@ -94,15 +96,15 @@ module _ (address : ℕ) (beyond : List ℕ) where
       let left = size - 1 in
       let size_is : size ≡ suc left = omega (arith, within.0) in
       let few : left ≤ length following = omega (arith, within.0, within.1) in
-      let source = front_source symbols location (byte ∷ following) in
-      let more = lines_from symbols address (index + 1) left bytes beyond in
+      let source = front_source symbols (references index) location (byte ∷ following) in
+      let more = lines_from symbols references address (index + 1) left bytes beyond in
       let over = over_from address (index + 1) left bytes beyond in
       let mine : List ℕ = bytes ++ take over beyond in
       let long : length (byte ∷ take left following) ≡ 1 + left = omega (arith, length-take-le left following few) in
-      let rest = gathered symbols (index + 1) left (index + length (byte ∷ take left following)) bytes (omega (arith, long)) in
+      let rest = gathered symbols references (index + 1) left (index + length (byte ∷ take left following)) bytes (omega (arith, long)) in
       let front : take left mine ≡ take left following = same_front left over bytes beyond (over_least (index + 1) left bytes) in
       let P : ℕ → Type 0 = λ i. (all : List (List ℕ))
-      × AreLines address i all (byte ∷ mine) (line_text symbols location (byte ∷ following) ++ more) in
+      × AreLines address i all (byte ∷ mine) (line_text symbols (references index) location (byte ∷ following) ++ more) in
       let here : index ≡ at = omega (arith, is) in
       subst P here (
         (byte ∷ take left following) ∷ rest.0,
@@ -118,21 +120,21 @@ module _ (address : ℕ) (beyond : List ℕ) where
         ),
       )
 
-pub each_joined_line : (symbols : List Symbol) (address shown : ℕ) (bytes beyond : List ℕ) → (all : List (List ℕ))
+pub each_joined_line : (symbols : List Symbol) (references : ℕ → References) (address shown : ℕ) (bytes beyond : List ℕ) → (all : List (List ℕ))
     × AreLines address shown all (drop shown (bytes ++ take (over_from address 0 shown bytes beyond) beyond))
-    (lines_from symbols address 0 shown bytes beyond)
-each_joined_line symbols address shown bytes beyond = gathered address beyond symbols 0 shown shown bytes (omega arith)
+    (lines_from symbols references address 0 shown bytes beyond)
+each_joined_line symbols references address shown bytes beyond = gathered address beyond symbols references 0 shown shown bytes (omega arith)
 
 none_taken : (count : ℕ) → take {A = ℕ} count [] ≡ []
 none_taken zero = refl
 none_taken (suc count) = refl
 
-pub each_line : (symbols : List Symbol) (address : ℕ) (bytes : List ℕ)
-    → (all : List (List ℕ)) × AreLines address 0 all bytes (lines symbols address bytes)
-each_line symbols address bytes =
-    let P : List ℕ → Type 0 = λ l. (all : List (List ℕ)) × AreLines address 0 all l (lines symbols address bytes) in
+pub each_line : (symbols : List Symbol) (references : ℕ → References) (address : ℕ) (bytes : List ℕ)
+    → (all : List (List ℕ)) × AreLines address 0 all bytes (lines symbols references address bytes)
+each_line symbols references address bytes =
+    let P : List ℕ → Type 0 = λ l. (all : List (List ℕ)) × AreLines address 0 all l (lines symbols references address bytes) in
     subst P (ap (λ (l : List ℕ). bytes ++ l) (none_taken (over_from address 0 0 bytes [])) ∙ append-nil bytes)
-    (each_joined_line symbols address 0 bytes [])
+    (each_joined_line symbols references address 0 bytes [])
 
 pub joined_within : (address shown : ℕ) (bytes beyond : List ℕ) → shown ≤ length bytes
     → over_from address 0 shown bytes beyond ≤ length beyond

@@ -5,10 +5,11 @@ use Rattle.m11_base_disassembly.specs.Instructions.{size_of, statement_of}
 use Rattle.m11_base_disassembly.specs.Statements.{Statement, DataByte}
 use Rattle.m11_base_disassembly.specs.Symbols.{address_name}
 use Rattle.m11_base_disassembly.specs.Texts.{statement_text}
+use Rattle.m11_base_disassembly.specs.References.{no_references}
 use Rattle.m11_base_disassembly.specs.declared.symbols.Symbol.{Symbol}
 use Rattle.m11_dump.proofs.EachLine.{same_front, size_within}
 use Rattle.m11_dump.specs.Octets.{location_after}
-use Rattle.m11_dump.specs.Instructions.{following, front_size, front_statement, line_by, line_text, lines_from, over_from, word_of}
+use Rattle.m11_dump.specs.Instructions.{following, front_size, front_statement, line_by, line_text, lines_from, over_from, unreferred, word_of}
 
 -- ---- the first six bytes determine a line
 
@@ -51,16 +52,16 @@ most_six location (byte ∷ []) = omega arith
 most_six location (low ∷ high ∷ bytes) = most_six_by low high bytes (location % 2 == 0)
 
 line_six : (symbols : List Symbol) (location : ℕ) (bytes : List ℕ)
-    → line_text symbols location bytes ≡ line_text symbols location (take 6 bytes)
+    → line_text symbols no_references location bytes ≡ line_text symbols no_references location (take 6 bytes)
 line_six symbols location bytes =
     let name = address_name (codes "\t;") symbols location in
     let size = front_size location bytes in
     let most = most_six location bytes in
     let shown : take size bytes ≡ take size (take 6 bytes) = sym (same_front size 6 [] bytes (omega (arith, most))) in
-    ap (λ (l : List ℕ). line_by location l (statement_text (front_statement location bytes) ++ name)) shown
-    ∙ ap (λ (n : ℕ). line_by location (take n (take 6 bytes)) (statement_text (front_statement location bytes) ++ name))
+    ap (λ (l : List ℕ). line_by location l (statement_text symbols no_references (front_statement location bytes) ++ name)) shown
+    ∙ ap (λ (n : ℕ). line_by location (take n (take 6 bytes)) (statement_text symbols no_references (front_statement location bytes) ++ name))
     (size_six location bytes)
-    ∙ ap (λ (s : Statement). line_by location (take (front_size location (take 6 bytes)) (take 6 bytes)) (statement_text s ++ name))
+    ∙ ap (λ (s : Statement). line_by location (take (front_size location (take 6 bytes)) (take 6 bytes)) (statement_text symbols no_references s ++ name))
     (statement_six location bytes)
 
 -- of the bytes beyond a block, the first five determine its lines
@@ -78,21 +79,21 @@ module _ (x y : List ℕ) (same : take 5 x ≡ take 5 y) where
       ∙ sym (size_six location (byte ∷ (bytes ++ y)))
 
   line_same : (symbols : List Symbol) (location byte : ℕ) (bytes : List ℕ)
-      → line_text symbols location (byte ∷ (bytes ++ x)) ≡ line_text symbols location (byte ∷ (bytes ++ y))
+      → line_text symbols no_references location (byte ∷ (bytes ++ x)) ≡ line_text symbols no_references location (byte ∷ (bytes ++ y))
   line_same symbols location byte bytes =
-      line_six symbols location (byte ∷ (bytes ++ x)) ∙ ap (line_text symbols location) (six_same byte bytes)
+      line_six symbols location (byte ∷ (bytes ++ x)) ∙ ap (line_text symbols no_references location) (six_same byte bytes)
       ∙ sym (line_six symbols location (byte ∷ (bytes ++ y)))
 
   lines_same : (symbols : List Symbol) (address index shown : ℕ) (bytes : List ℕ)
-      → lines_from symbols address index shown bytes x ≡ lines_from symbols address index shown bytes y
+      → lines_from symbols unreferred address index shown bytes x ≡ lines_from symbols unreferred address index shown bytes y
   lines_same symbols address index shown [] = refl
   lines_same symbols address index zero (byte ∷ bytes) =
       let location = location_after address index in
-      ap (λ (t : List ℕ). t ++ lines_from symbols address (index + 1) (front_size location (byte ∷ (bytes ++ x)) - 1) bytes x)
+      ap (λ (t : List ℕ). t ++ lines_from symbols unreferred address (index + 1) (front_size location (byte ∷ (bytes ++ x)) - 1) bytes x)
       (line_same symbols location byte bytes)
-      ∙ ap (λ (n : ℕ). line_text symbols location (byte ∷ (bytes ++ y)) ++ lines_from symbols address (index + 1) (n - 1) bytes x)
+      ∙ ap (λ (n : ℕ). line_text symbols no_references location (byte ∷ (bytes ++ y)) ++ lines_from symbols unreferred address (index + 1) (n - 1) bytes x)
       (size_same location byte bytes)
-      ∙ ap (λ (t : List ℕ). line_text symbols location (byte ∷ (bytes ++ y)) ++ t)
+      ∙ ap (λ (t : List ℕ). line_text symbols no_references location (byte ∷ (bytes ++ y)) ++ t)
       (lines_same symbols address (index + 1) (front_size location (byte ∷ (bytes ++ y)) - 1) bytes)
   lines_same symbols address index (suc shown) (byte ∷ bytes) = lines_same symbols address (index + 1) shown bytes
 
@@ -110,51 +111,51 @@ location_further : (address base index : ℕ) → location_after address (base +
 location_further address base index = omega arith
 
 lines_further : (symbols : List Symbol) (address base index shown : ℕ) (bytes beyond : List ℕ)
-    → lines_from symbols address (base + index) shown bytes beyond ≡ lines_from symbols (location_after address base) index shown bytes beyond
+    → lines_from symbols unreferred address (base + index) shown bytes beyond ≡ lines_from symbols unreferred (location_after address base) index shown bytes beyond
 lines_further symbols address base index shown [] beyond = refl
 lines_further symbols address base index zero (byte ∷ bytes) beyond =
     let left : List ℕ = byte ∷ (bytes ++ beyond) in
     let there = location_after (location_after address base) index in
     let e : base + index + 1 ≡ base + (index + 1) = omega arith in
-    ap (λ (l : ℕ). line_text symbols l left ++ lines_from symbols address (base + index + 1) (front_size l left - 1) bytes beyond)
+    ap (λ (l : ℕ). line_text symbols no_references l left ++ lines_from symbols unreferred address (base + index + 1) (front_size l left - 1) bytes beyond)
     (location_further address base index)
-    ∙ ap (λ (t : List ℕ). line_text symbols there left ++ t)
-    (ap (λ (i : ℕ). lines_from symbols address i (front_size there left - 1) bytes beyond) e
+    ∙ ap (λ (t : List ℕ). line_text symbols no_references there left ++ t)
+    (ap (λ (i : ℕ). lines_from symbols unreferred address i (front_size there left - 1) bytes beyond) e
     ∙ lines_further symbols address base (index + 1) (front_size there left - 1) bytes beyond)
 lines_further symbols address base index (suc shown) (byte ∷ bytes) beyond =
     let e : base + index + 1 ≡ base + (index + 1) = omega arith in
-    ap (λ (i : ℕ). lines_from symbols address i shown bytes beyond) e ∙ lines_further symbols address base (index + 1) shown bytes beyond
+    ap (λ (i : ℕ). lines_from symbols unreferred address i shown bytes beyond) e ∙ lines_further symbols address base (index + 1) shown bytes beyond
 
 -- ---- both blocks together
 
-split : (symbols : List Symbol) (address index shown : ℕ) (bytes next beyond : List ℕ) → lines_from symbols address index shown (bytes ++ next) beyond
-    ≡ lines_from symbols address index shown bytes (next ++ beyond)
-    ++ lines_from symbols address (index + length bytes) (over_from address index shown bytes (next ++ beyond)) next beyond
+split : (symbols : List Symbol) (address index shown : ℕ) (bytes next beyond : List ℕ) → lines_from symbols unreferred address index shown (bytes ++ next) beyond
+    ≡ lines_from symbols unreferred address index shown bytes (next ++ beyond)
+    ++ lines_from symbols unreferred address (index + length bytes) (over_from address index shown bytes (next ++ beyond)) next beyond
 split symbols address index shown [] next beyond =
-    let e : index ≡ index + 0 = omega arith in ap (λ (i : ℕ). lines_from symbols address i shown next beyond) e
+    let e : index ≡ index + 0 = omega arith in ap (λ (i : ℕ). lines_from symbols unreferred address i shown next beyond) e
 split symbols address index zero (byte ∷ bytes) next beyond =
     let location = location_after address index in
     let left : List ℕ = byte ∷ (bytes ++ (next ++ beyond)) in
     let size = front_size location left in
     let e : index + 1 + length bytes ≡ index + suc (length bytes) = omega arith in
     let over = over_from address (index + 1) (size - 1) bytes (next ++ beyond) in
-    let front = lines_from symbols address (index + 1) (size - 1) bytes (next ++ beyond) in
-    ap (λ (l : List ℕ). line_text symbols location (byte ∷ l)
-    ++ lines_from symbols address (index + 1) (front_size location (byte ∷ l) - 1) (bytes ++ next) beyond)
+    let front = lines_from symbols unreferred address (index + 1) (size - 1) bytes (next ++ beyond) in
+    ap (λ (l : List ℕ). line_text symbols no_references location (byte ∷ l)
+    ++ lines_from symbols unreferred address (index + 1) (front_size location (byte ∷ l) - 1) (bytes ++ next) beyond)
     (append_assoc bytes next beyond)
-    ∙ ap (λ (t : List ℕ). line_text symbols location left ++ t)
+    ∙ ap (λ (t : List ℕ). line_text symbols no_references location left ++ t)
     (split symbols address (index + 1) (size - 1) bytes next beyond
-    ∙ ap (λ (i : ℕ). front ++ lines_from symbols address i over next beyond) e)
-    ∙ sym (append_assoc (line_text symbols location left) front (lines_from symbols address (index + suc (length bytes)) over next beyond))
+    ∙ ap (λ (i : ℕ). front ++ lines_from symbols unreferred address i over next beyond) e)
+    ∙ sym (append_assoc (line_text symbols no_references location left) front (lines_from symbols unreferred address (index + suc (length bytes)) over next beyond))
 split symbols address index (suc shown) (byte ∷ bytes) next beyond =
     let e : index + 1 + length bytes ≡ index + suc (length bytes) = omega arith in
     split symbols address (index + 1) shown bytes next beyond
-    ∙ ap (λ (i : ℕ). lines_from symbols address (index + 1) shown bytes (next ++ beyond)
-    ++ lines_from symbols address i (over_from address (index + 1) shown bytes (next ++ beyond)) next beyond) e
+    ∙ ap (λ (i : ℕ). lines_from symbols unreferred address (index + 1) shown bytes (next ++ beyond)
+    ++ lines_from symbols unreferred address i (over_from address (index + 1) shown bytes (next ++ beyond)) next beyond) e
 
 pub shown_as_one : (symbols : List Symbol) (address shown : ℕ) (bytes next beyond : List ℕ) → take 5 (next ++ beyond) ≡ take 5 next
-    → lines_from symbols address 0 shown (bytes ++ next) beyond ≡ lines_from symbols address 0 shown bytes (take 5 next)
-    ++ lines_from symbols (location_after address (length bytes)) 0 (over_from address 0 shown bytes (take 5 next)) next beyond
+    → lines_from symbols unreferred address 0 shown (bytes ++ next) beyond ≡ lines_from symbols unreferred address 0 shown bytes (take 5 next)
+    ++ lines_from symbols unreferred (location_after address (length bytes)) 0 (over_from address 0 shown bytes (take 5 next)) next beyond
 shown_as_one symbols address shown bytes next beyond five =
     let same : take 5 (next ++ beyond) ≡ take 5 (take 5 next) =
     five ∙ sym (same_front 5 5 [] next (omega arith)) in
@@ -162,10 +163,10 @@ shown_as_one symbols address shown bytes next beyond five =
     let over = over_from address 0 shown bytes (take 5 next) in
     split symbols address 0 shown bytes next beyond
     ∙ ap (λ (t : List ℕ). t
-    ++ lines_from symbols address (0 + length bytes) (over_from address 0 shown bytes (next ++ beyond)) next beyond)
+    ++ lines_from symbols unreferred address (0 + length bytes) (over_from address 0 shown bytes (next ++ beyond)) next beyond)
     (lines_same (next ++ beyond) (take 5 next) same symbols address 0 shown bytes)
-    ∙ ap (λ (n : ℕ). lines_from symbols address 0 shown bytes (take 5 next) ++ lines_from symbols address (0 + length bytes) n next beyond)
+    ∙ ap (λ (n : ℕ). lines_from symbols unreferred address 0 shown bytes (take 5 next) ++ lines_from symbols unreferred address (0 + length bytes) n next beyond)
     (over_same (next ++ beyond) (take 5 next) same address 0 shown bytes)
-    ∙ ap (λ (i : ℕ). lines_from symbols address 0 shown bytes (take 5 next) ++ lines_from symbols address i over next beyond) e
-    ∙ ap (λ (t : List ℕ). lines_from symbols address 0 shown bytes (take 5 next) ++ t)
+    ∙ ap (λ (i : ℕ). lines_from symbols unreferred address 0 shown bytes (take 5 next) ++ lines_from symbols unreferred address i over next beyond) e
+    ∙ ap (λ (t : List ℕ). lines_from symbols unreferred address 0 shown bytes (take 5 next) ++ t)
     (lines_further symbols address (length bytes) 0 over next beyond)

@@ -1,20 +1,21 @@
 -- Bytes that are shown as instructions, one line after another.
 use Rattle.std.proofs.Common.{◌≡◌, ◌∙◌, ℕ, zero, suc, ◌+◌, ◌-◌, ◌<◌, ◌≤◌, List, [], ◌∷◌, ◌++◌, append_assoc, drop, length, refl, sym, ap, take, arith}
 use Rattle.std.proofs.lemmas.List.{drop-append-le, drop-drop, length-drop, length-take-le, take-append-drop, take_all}
+use Rattle.m11_base_disassembly.specs.References.{no_references}
 use Rattle.m11_base_disassembly.specs.declared.symbols.Symbol.{Symbol}
 use Rattle.m11_dump.specs.Octets.{location_after}
-use Rattle.m11_dump.specs.Instructions.{front_size, line_text, lines_from, over_from}
+use Rattle.m11_dump.specs.Instructions.{front_size, line_text, lines_from, over_from, unreferred}
 
 module _ (address : ℕ) (beyond : List ℕ) where
   -- the lines of some bytes are the lines of those that the previous line doesn't show
   lines_after : (symbols : List Symbol) (shown index : ℕ) (bytes : List ℕ)
-      → lines_from symbols address index shown bytes beyond ≡ lines_from symbols address (index + shown) 0 (drop shown bytes) beyond
+      → lines_from symbols unreferred address index shown bytes beyond ≡ lines_from symbols unreferred address (index + shown) 0 (drop shown bytes) beyond
   lines_after symbols zero index bytes =
-      let e : index ≡ index + 0 = omega arith in ap (λ (i : ℕ). lines_from symbols address i 0 bytes beyond) e
+      let e : index ≡ index + 0 = omega arith in ap (λ (i : ℕ). lines_from symbols unreferred address i 0 bytes beyond) e
   lines_after symbols (suc shown) index [] = refl
   lines_after symbols (suc shown) index (byte ∷ bytes) =
       let e : index + 1 + shown ≡ index + suc shown = omega arith in
-      lines_after symbols shown (index + 1) bytes ∙ ap (λ (i : ℕ). lines_from symbols address i 0 (drop shown bytes) beyond) e
+      lines_after symbols shown (index + 1) bytes ∙ ap (λ (i : ℕ). lines_from symbols unreferred address i 0 (drop shown bytes) beyond) e
 
   over_after : (shown index : ℕ) (bytes : List ℕ)
       → over_from address index shown bytes beyond
@@ -34,10 +35,10 @@ module _ (address : ℕ) (beyond : List ℕ) where
       ∙ ap (λ (n : ℕ). over_from address (index + suc shown) n (drop shown bytes) beyond) left
 
   pub lines_begin : (symbols : List Symbol) (shown : ℕ) (bytes : List ℕ)
-      → lines_from symbols address 0 shown bytes beyond ≡ lines_from symbols address shown 0 (drop shown bytes) beyond
+      → lines_from symbols unreferred address 0 shown bytes beyond ≡ lines_from symbols unreferred address shown 0 (drop shown bytes) beyond
   lines_begin symbols shown bytes =
       let e : 0 + shown ≡ shown = omega arith in
-      lines_after symbols shown 0 bytes ∙ ap (λ (i : ℕ). lines_from symbols address i 0 (drop shown bytes) beyond) e
+      lines_after symbols shown 0 bytes ∙ ap (λ (i : ℕ). lines_from symbols unreferred address i 0 (drop shown bytes) beyond) e
 
   pub over_begins : (shown own : ℕ) (bytes : List ℕ) → length bytes ≡ own → over_from address 0 shown bytes beyond
       ≡ over_from address shown (shown - own) (drop shown bytes) beyond
@@ -49,16 +50,16 @@ module _ (address : ℕ) (beyond : List ℕ) where
   -- the lines of some bytes are the first line, and the lines of the bytes that it doesn't show
   first_line : (symbols : List Symbol) (index size : ℕ) (bytes : List ℕ) → 0 < length bytes → 0 < size
       → size ≡ front_size (location_after address index) (bytes ++ beyond)
-      → lines_from symbols address index 0 bytes beyond
-      ≡ line_text symbols (location_after address index) (bytes ++ beyond) ++ lines_from symbols address (index + size) 0 (drop size bytes) beyond
+      → lines_from symbols unreferred address index 0 bytes beyond
+      ≡ line_text symbols no_references (location_after address index) (bytes ++ beyond) ++ lines_from symbols unreferred address (index + size) 0 (drop size bytes) beyond
   first_line symbols index size [] some least is = absurd (omega (arith, some))
   first_line symbols index zero (byte ∷ bytes) some least is = absurd (omega (arith, least))
   first_line symbols index (suc rest) (byte ∷ bytes) some least is =
       let left : front_size (location_after address index) (byte ∷ (bytes ++ beyond)) - 1 ≡ rest = omega (arith, is) in
       let e : index + 1 + rest ≡ index + suc rest = omega arith in
-      ap (λ (t : List ℕ). line_text symbols (location_after address index) (byte ∷ (bytes ++ beyond)) ++ t)
-      (ap (λ (n : ℕ). lines_from symbols address (index + 1) n bytes beyond) left ∙ lines_after symbols rest (index + 1) bytes
-      ∙ ap (λ (i : ℕ). lines_from symbols address i 0 (drop rest bytes) beyond) e)
+      ap (λ (t : List ℕ). line_text symbols no_references (location_after address index) (byte ∷ (bytes ++ beyond)) ++ t)
+      (ap (λ (n : ℕ). lines_from symbols unreferred address (index + 1) n bytes beyond) left ∙ lines_after symbols rest (index + 1) bytes
+      ∙ ap (λ (i : ℕ). lines_from symbols unreferred address i 0 (drop rest bytes) beyond) e)
 
   first_over : (index size : ℕ) (bytes : List ℕ) → 0 < length bytes → 0 < size
       → size ≡ front_size (location_after address index) (bytes ++ beyond)
@@ -103,19 +104,19 @@ module _ (bytes : List ℕ) (address own index size : ℕ) (there : own ≤ leng
   dropped : drop size (drop index mine) ≡ drop (index + size) mine
   dropped = drop-drop size index mine
 
-  pub line_shown : (symbols : List Symbol) (all now later : List ℕ) → now ++ lines_from symbols address index 0 (drop index mine) beyond ≡ all
-      → later ≡ now ++ line_text symbols location (take (length bytes - index) (drop index bytes))
-      → later ++ lines_from symbols address (index + size) 0 (drop (index + size) mine) beyond ≡ all
+  pub line_shown : (symbols : List Symbol) (all now later : List ℕ) → now ++ lines_from symbols unreferred address index 0 (drop index mine) beyond ≡ all
+      → later ≡ now ++ line_text symbols no_references location (take (length bytes - index) (drop index bytes))
+      → later ++ lines_from symbols unreferred address (index + size) 0 (drop (index + size) mine) beyond ≡ all
   line_shown symbols all now later leads is =
-      let line = line_text symbols (location_after address index) (drop index mine ++ beyond) in
-      let rest = lines_from symbols address (index + size) 0 (drop (index + size) mine) beyond in
-      let line_is : line_text symbols location (take (length bytes - index) (drop index bytes)) ≡ line =
-      ap (λ (p : ℕ). line_text symbols p (take (length bytes - index) (drop index bytes))) at
-      ∙ ap (λ (l : List ℕ). line_text symbols (location_after address index) l) left_is in
+      let line = line_text symbols no_references (location_after address index) (drop index mine ++ beyond) in
+      let rest = lines_from symbols unreferred address (index + size) 0 (drop (index + size) mine) beyond in
+      let line_is : line_text symbols no_references location (take (length bytes - index) (drop index bytes)) ≡ line =
+      ap (λ (p : ℕ). line_text symbols no_references p (take (length bytes - index) (drop index bytes))) at
+      ∙ ap (λ (l : List ℕ). line_text symbols no_references (location_after address index) l) left_is in
       ap (λ (t : List ℕ). t ++ rest) (is ∙ ap (λ (t : List ℕ). now ++ t) line_is)
       ∙ append_assoc now line rest
       ∙ ap (λ (t : List ℕ). now ++ t) (sym (first_line address beyond symbols index size (drop index mine) some least size_is
-      ∙ ap (λ (l : List ℕ). line ++ lines_from symbols address (index + size) 0 l beyond) dropped))
+      ∙ ap (λ (l : List ℕ). line ++ lines_from symbols unreferred address (index + size) 0 l beyond) dropped))
       ∙ leads
 
   pub over_shown : (all : ℕ) → over_from address index (index - own) (drop index mine) beyond ≡ all

@@ -1,14 +1,15 @@
 -- The bytes of an object's text or of a tape's block as instructions, one to a line: a location, the bytes there, their line of
--- source, and a comment that names the location by the nearest global at or below it, if there is one. A byte at an odd location is
--- a byte of data, and so is a single last byte. The last line may continue into bytes beyond the text or block. (PDP-11/40
+-- source, with names in operands, and a comment that names the location by the nearest symbol at or below it, if there is one. A byte at an odd location is a byte of data, and so is a single last byte. The last line may continue into bytes beyond the text or block. (PDP-11/40
 -- Processor Handbook, "Instruction set"; MACRO-11 Language Reference Manual, "Addressing modes". The lines are this project's own.)
 use Rattle.std.specs.Prelude.{◌≡◌, ◌<◌, ℕ, zero, suc, ◌+◌, ◌-◌, ◌*◌, ◌%◌, ◌==◌, if◌then◌else◌, List, [], ◌∷◌, ◌++◌, length, take, codes}
 use Rattle.m11_base.specs.Devices.{Bytes}
 use Rattle.m11_base.specs.Octal.{octal_text}
 use Rattle.m11_base_disassembly.specs.Instructions.{size_of, statement_of}
+use Rattle.m11_base_disassembly.specs.References.{no_references}
 use Rattle.m11_base_disassembly.specs.Statements.{Statement, DataByte}
 use Rattle.m11_base_disassembly.specs.Symbols.{address_name}
 use Rattle.m11_base_disassembly.specs.Texts.{statement_text}
+use Rattle.m11_base_disassembly.specs.declared.references.References.{References}
 use Rattle.m11_base_disassembly.specs.declared.symbols.Symbol.{Symbol}
 use Rattle.m11_dump.specs.Octets.{location_after, octal3}
 
@@ -59,15 +60,16 @@ abbrev pub line_by : ℕ → Bytes → Bytes → Bytes
 line_by location shown source =
     ((((codes "  " ++ octal_text location) ++ cells shown) ++ gap (length shown)) ++ source) ++ 10 ∷ []
 
--- the source of the statement at this location, and a comment that names the location by the nearest of these globals at or below it;
--- no comment if there is no such global
-abbrev pub front_source : List Symbol → ℕ → Bytes → Bytes
-front_source symbols location bytes =
-    statement_text (front_statement location bytes) ++ address_name (codes "\t;") symbols location
+-- the source of the statement at this location, and a comment that names the location by the nearest of these symbols at or below it;
+-- no comment if there is no such symbol
+abbrev pub front_source : List Symbol → References → ℕ → Bytes → Bytes
+front_source symbols references location bytes =
+    statement_text symbols references (front_statement location bytes) ++ address_name (codes "\t;") symbols location
 
--- the line of the statement at this location
-abbrev pub line_text : List Symbol → ℕ → Bytes → Bytes
-line_text symbols location bytes = line_by location (take (front_size location bytes) bytes) (front_source symbols location bytes)
+-- the line of the statement at this location, whose words after the code have these references
+abbrev pub line_text : List Symbol → References → ℕ → Bytes → Bytes
+line_text symbols references location bytes =
+    line_by location (take (front_size location bytes) bytes) (front_source symbols references location bytes)
 
 -- ---- lines one after another
 
@@ -75,13 +77,20 @@ line_text symbols location bytes = line_by location (take (front_size location b
 abbrev pub head_line : Bytes → ℕ → Bytes
 head_line word address = (word ++ octal_text address) ++ 10 ∷ []
 
--- the lines that begin among these bytes, the first of which has this index in a text or block at this address. The previous line shows
--- the first `shown` bytes, and `beyond` follows the bytes
-abbrev pub lines_from : List Symbol → ℕ → ℕ → ℕ → Bytes → Bytes → Bytes
-lines_from symbols address index shown [] beyond = []
-lines_from symbols address index zero (byte ∷ bytes) beyond = line_text symbols (location_after address index) ((byte ∷ bytes) ++ beyond)
-    ++ lines_from symbols address (index + 1) (front_size (location_after address index) ((byte ∷ bytes) ++ beyond) - 1) bytes beyond
-lines_from symbols address index (suc shown) (byte ∷ bytes) beyond = lines_from symbols address (index + 1) shown bytes beyond
+-- no word of a text or block refers to anything
+abbrev pub unreferred : ℕ → References
+unreferred index = no_references
+
+-- the lines that begin among these bytes, the first of which has this index in a text or block at this address; `references` gives the
+-- references of an instruction by the index of its code. The previous line shows the first `shown` bytes, and `beyond` follows the bytes
+abbrev pub lines_from : List Symbol → (ℕ → References) → ℕ → ℕ → ℕ → Bytes → Bytes → Bytes
+lines_from symbols references address index shown [] beyond = []
+lines_from symbols references address index zero (byte ∷ bytes) beyond =
+    line_text symbols (references index) (location_after address index) ((byte ∷ bytes) ++ beyond)
+    ++ lines_from symbols references address (index + 1) (front_size (location_after address index) ((byte ∷ bytes) ++ beyond) - 1)
+    bytes beyond
+lines_from symbols references address index (suc shown) (byte ∷ bytes) beyond =
+    lines_from symbols references address (index + 1) shown bytes beyond
 
 -- how many bytes of `beyond` are shown by the last line that begins among these bytes, or by the previous line if none begins there
 abbrev pub over_from : ℕ → ℕ → ℕ → Bytes → Bytes → ℕ
@@ -91,8 +100,8 @@ over_from address index zero (byte ∷ bytes) beyond =
 over_from address index (suc shown) (byte ∷ bytes) beyond = over_from address (index + 1) shown bytes beyond
 
 -- the lines of these bytes, with the first byte at this address and nothing beyond the last
-abbrev pub lines : List Symbol → ℕ → Bytes → Bytes
-lines symbols address bytes = lines_from symbols address 0 0 bytes []
+abbrev pub lines : List Symbol → (ℕ → References) → ℕ → Bytes → Bytes
+lines symbols references address bytes = lines_from symbols references address 0 0 bytes []
 
 -- ---- which bytes each line shows
 

@@ -2,6 +2,7 @@ pub mod Octets
 pub mod Instructions
 pub mod Entries
 pub mod Relocations
+pub mod References
 pub mod Beside
 pub mod Records
 pub mod ObjectTexts

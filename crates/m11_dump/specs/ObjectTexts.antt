@@ -12,6 +12,7 @@ use Rattle.m11_dump.specs.Beside.{lines_beside, other_places, places_at}
 use Rattle.m11_dump.specs.Instructions.{head_line, over_from}
 use Rattle.m11_dump.specs.Octets.{location_after}
 use Rattle.m11_dump.specs.Records.{octal_lines, record_lines, records_of}
+use Rattle.m11_dump.specs.References.{references_at}
 use Rattle.m11_dump.specs.Relocations.{relocation_line}
 use Rattle.m11_dump.specs.declared.view.View.{View}
 use Rattle.m11_dump.specs.declared.view.View.TheVariants.{Octal, Instructions}
@@ -51,7 +52,8 @@ beyond address bytes records = next_bytes address bytes records
 abbrev pub text_lines : View → ℕ → ℕ → Bytes → List Relocation → Bytes → Bytes
 text_lines Octal address shown bytes relocations after = octal_lines address bytes ++ flat_map (relocation_line address) relocations
 text_lines Instructions address shown bytes relocations after =
-    (head_line (codes "TEXT ") address ++ lines_beside (places_at address relocations) address 0 shown bytes after)
+    (head_line (codes "TEXT ") address ++ lines_beside (references_at relocations) (places_at address relocations) address 0 shown
+    bytes after)
     ++ other_places address (length bytes) relocations
 
 -- how many bytes of the next text are shown in the lines of a text

@@ -1,6 +1,6 @@
 -- The lines of relocations. (What a relocation means: RT-11 Volume and File Formats Manual, "Object file format", RLD block. The
 -- words and columns are this project's own.)
-use Rattle.std.specs.Prelude.{ℕ, ◌+◌, ◌%◌, Bool, true, false, if◌then◌else◌, [], ◌∷◌, ◌++◌, Option, Some, None, codes}
+use Rattle.std.specs.Prelude.{ℕ, ◌+◌, ◌%◌, ◌==◌, Bool, true, false, if◌then◌else◌, [], ◌∷◌, ◌++◌, Option, Some, None, codes}
 use Rattle.m11_base.specs.Devices.{Bytes}
 use Rattle.m11_base.specs.Octal.{octal_text}
 use Rattle.m11_base.specs.Rad50.{Name, name_text}
@@ -53,6 +53,11 @@ abbrev pub stores : Target → Bool
 stores (LocationCounterDefinition name constant) = false
 stores (LocationCounterModification constant) = false
 stores target = true
+
+-- whether a relocation stores a value that begins at the byte with this index in its text; the first byte of the text has displacement
+-- 4
+abbrev pub names_byte : ℕ → Relocation → Bool
+names_byte index relocation = if stores relocation.target then relocation.displacement == index + 4 else false
 
 -- the location of a relocation of the text at this address, in six octal digits; six blanks if the relocation stores nothing
 abbrev pub location_text : ℕ → Relocation → Bytes

@@ -19,7 +19,7 @@ use Rattle.m11_dump.specs.Words.{data_cells}
 use Rattle.m11_dump.specs.declared.fault.DumpFault.{DumpFault}
 use Rattle.m11_dump.specs.declared.fault.DumpFault.TheVariants as fault
 use Rattle.m11_dump.specs.declared.fault.LocatedFault.{LocatedFault}
-use Rattle.m11_dump.specs.Instructions.{head_line, lines_from, over_from}
+use Rattle.m11_dump.specs.Instructions.{head_line, lines_from, over_from, unreferred}
 use Rattle.m11_dump.specs.Octets.{location_after}
 use Rattle.m11_dump.specs.declared.tapes.Held.{Held}
 use Rattle.m11_dump.specs.declared.view.View.{View}
@@ -47,7 +47,7 @@ beyond block (next ∷ blocks) = if next.0 == location_after block.0 (length blo
 abbrev pub block_text : TapeView → ℕ → ℕ × Bytes → Bytes → Bytes
 block_text InOctal shown block after = ((codes "BLOCK " ++ octal_text block.0) ++ data_cells block.0 block.1) ++ 10 ∷ []
 block_text (AsInstructions symbols) shown block after =
-    head_line (codes "BLOCK ") block.0 ++ lines_from symbols block.0 0 shown block.1 after
+    head_line (codes "BLOCK ") block.0 ++ lines_from symbols unreferred block.0 0 shown block.1 after
 
 -- how many bytes of the next block are shown in the text of a block
 abbrev pub over : TapeView → ℕ → ℕ × Bytes → Bytes → ℕ

@@ -4,11 +4,13 @@ ghost use Rattle.std.specs.Prelude.{◌≡◌, ◌≤◌, ◌<◌, ◌++◌, dro
 ghost use Rattle.std.specs.List.{flat_map};
 ghost use Rattle.m11_dump.specs.Beside as spec;
 ghost use Rattle.m11_dump.specs.Instructions.{over_from};
+ghost use Rattle.m11_dump.specs.References.{references_at};
 ghost use Rattle.m11_dump.specs.Relocations as relocations;
 
 use crate::instructions::put_line;
 use crate::octets::location_after;
-use crate::relocations::{relocation_line, stores};
+use crate::references::references_at;
+use crate::relocations::{names_byte, relocation_line, stores};
 use m11_obj::Relocation;
 use std::alloc::AllocError;
 
@@ -24,14 +26,6 @@ pub(crate) fn put_places(
         text.extend_from_slice(&relocation_line(address, place))?;
     }
     Ok(())
-}
-
-// Whether a relocation stores a value that begins at the byte with this index in its text.
-fn names_byte(index: usize, place: &Relocation) -> bool
-    requires { index < 65536 }
-    ensures { result ≡ spec.names_byte index place.now }
-{
-    stores(&place.target) && usize::from(place.displacement) == index + 4
 }
 
 // Whether a relocation stores a value that begins at one of the first `count` bytes of its text.
@@ -110,20 +104,25 @@ pub(crate) fn put_other_places(
     Ok(())
 }
 
-// Adds the line that begins with the first of `bytes`, which lies at this location, unless the previous line shows that byte. `shown`
-// is how many of `bytes` the previous line shows. Returns how many of the bytes after the first one are now shown.
+// Adds the line that begins with the first of `bytes`, which lies at this location and has this index in its text, unless the previous line
+// shows that byte. `shown` is how many of `bytes` the previous line shows. Returns how many of the bytes after the first one are now shown.
 fn put_line_at(
     text: &mut Vec<u8>,
+    places: &[Relocation],
+    index: usize,
     location: u16,
     shown: usize,
     bytes: &[u8],
 ) -> Result<usize, AllocError>
-    requires { 0 < length bytes.now }
-    ensures text { OnOk result (text.new.items ≡ text.old.items ++ spec.line_at location shown bytes.now) }
+    requires some { 0 < length bytes.now }
+    requires few { index < 65536 }
+    ensures text { OnOk result (text.new.items ≡ text.old.items
+        ++ spec.line_at (references_at places.now index) location shown bytes.now) }
     ensures left { IfOk result (λ left. left ≡ spec.left_at location shown bytes.now) }
 {
     if shown == 0 {
-        let size = put_line(text, &[], location, bytes)?;
+        let references = references_at(places, index);
+        let size = put_line(text, &[], &references, location, bytes)?;
         Ok(size - 1)
     } else {
         Ok(shown - 1)
@@ -144,12 +143,20 @@ pub(crate) fn put_lines_beside(
     requires there { own ≤ length bytes.now }
     requires few { own ≤ 65536 }
     ensures text { OnOk result (text.new.items ≡ text.old.items
-        ++ spec.lines_beside (spec.places_at address places.now) address 0 shown (take own bytes.now) (drop own bytes.now)) }
+        ++ spec.lines_beside (references_at places.now) (spec.places_at address places.now) address 0 shown
+        (take own bytes.now) (drop own bytes.now)) }
     ensures over { IfOk result (λ over. over ≡ over_from address 0 shown (take own bytes.now) (drop own bytes.now)) }
 {
     let mut left = shown;
     'bytes: for index in 0..own {
-        left = put_line_at(text, location_after(address, index), left, &bytes[index..])?;
+        left = put_line_at(
+            text,
+            places,
+            index,
+            location_after(address, index),
+            left,
+            &bytes[index..],
+        )?;
         put_places_at(text, address, index, places)?;
     }
     Ok(left)

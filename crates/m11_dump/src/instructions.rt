@@ -9,7 +9,9 @@ use crate::octets::{location_after, octal3};
 use crate::words::word_of;
 use arrayvec::ArrayVec;
 use m11_base::octal6;
-use m11_base_disassembly::{Source, Symbol, address_name, byte_source, disassembled};
+use m11_base_disassembly::{
+    References, Source, Symbol, address_name, byte_source, disassembled, no_references,
+};
 use m11_obj_print::{Line, add_bytes};
 use std::alloc::AllocError;
 
@@ -49,11 +51,11 @@ fn following(bytes: &[u8]) -> ArrayVec<u16, 2>
     words
 }
 
-// The statement at this location, where these bytes begin: a data byte if the location is odd or only one byte is left; without
-// bytes, a data byte of 0.
-fn front_of(location: u16, bytes: &[u8]) -> Front
+// The statement at this location, where these bytes begin, with the names that these symbols give to addresses in operands, and these references
+// of its words: a data byte if the location is odd or only one byte is left; without bytes, a data byte of 0.
+fn front_of(symbols: &[Symbol], references: &References, location: u16, bytes: &[u8]) -> Front
     requires { 0 < length bytes.now }
-    ensures source { result.source.items ≡ statement_text (spec.front_statement location bytes.now) }
+    ensures source { result.source.items ≡ statement_text symbols.now references.now (spec.front_statement location bytes.now) }
     ensures size { result.size ≡ spec.front_size location bytes.now }
     ensures some { 0 < result.size }
     ensures few { result.size ≤ 6 }
@@ -61,7 +63,13 @@ fn front_of(location: u16, bytes: &[u8]) -> Front
 {
     match bytes {
         [low, high, others @ ..] if location % 2 == 0 => {
-            let found = disassembled(location, word_of(*low, *high), &following(others));
+            let found = disassembled(
+                symbols,
+                references,
+                location,
+                word_of(*low, *high),
+                &following(others),
+            );
             Front {
                 source: found.source,
                 size: 2 * found.words,
@@ -114,7 +122,7 @@ fn gap(count: usize) -> &'static [u8]
 // A line: a location, the bytes there, a line of source and a comment.
 fn line_by(location: u16, shown: &[u8], source: &[u8], comment: &[u8]) -> Line
     requires shown { length shown.now ≤ 6 }
-    requires source { length source.now ≤ 40 }
+    requires source { length source.now ≤ 48 }
     requires comment { length comment.now ≤ 15 }
     ensures { result.items ≡ spec.line_by location shown.now (source.now ++ comment.now) }
 {
@@ -129,21 +137,22 @@ fn line_by(location: u16, shown: &[u8], source: &[u8], comment: &[u8]) -> Line
     line
 }
 
-/// Adds the line of the statement at this location, where `bytes` begin, with a comment that names the location by the nearest of
-/// `symbols` at or below it, if there is one. Returns how many bytes the line shows. Fails if memory is refused.
+/// Adds the line of the statement at this location, where `bytes` begin, with the names that `symbols` give to addresses in operands, these
+/// references of its words, and a comment that names the location by the nearest of `symbols` at or below it, if there is one. Returns how many bytes the line shows. Fails if memory is refused.
 pub(crate) fn put_line(
     text: &mut Vec<u8>,
     symbols: &[Symbol],
+    references: &References,
     location: u16,
     bytes: &[u8],
 ) -> Result<usize, AllocError>
     requires { 0 < length bytes.now }
-    ensures text { OnOk result (text.new.items ≡ text.old.items ++ spec.line_text symbols.now location bytes.now) }
+    ensures text { OnOk result (text.new.items ≡ text.old.items ++ spec.line_text symbols.now references.now location bytes.now) }
     ensures size { IfOk result (λ size. size ≡ spec.front_size location bytes.now) }
     ensures some { IfOk result (λ size. 0 < size) }
     ensures there { IfOk result (λ size. size ≤ length bytes.now) }
 {
-    let front = front_of(location, bytes);
+    let front = front_of(symbols, references, location, bytes);
     let name = address_name(b"\t;", symbols, location);
     let line = line_by(location, &bytes[..front.size], &front.source, &name);
     text.extend_from_slice(&line)?;
@@ -160,8 +169,8 @@ pub(crate) fn put_head(text: &mut Vec<u8>, word: &[u8], address: u16) -> Result<
     Ok(())
 }
 
-/// Adds the lines of a text or block at this address. Each line ends with a comment that names its location by the nearest of
-/// `symbols` at or below it, if there is one. The first `own` of `bytes`, at most 65,536, are those of the text or block, and the
+/// Adds the lines of a text or block at this address. `symbols` name addresses in operands, and each line ends with a comment that names its
+/// location by the nearest of them at or below it, if there is one. The first `own` of `bytes`, at most 65,536, are those of the text or block, and the
 /// first `shown` of them were shown before; the others belong to the next text or block. Returns how many of the others the last
 /// line shows. Fails if memory is refused.
 pub(crate) fn put_lines(
@@ -175,7 +184,7 @@ pub(crate) fn put_lines(
     requires there { own ≤ length bytes.now }
     requires few { own ≤ 65536 }
     ensures text { OnOk result (text.new.items
-        ≡ text.old.items ++ spec.lines_from symbols.now address 0 shown (take own bytes.now) (drop own bytes.now)) }
+        ≡ text.old.items ++ spec.lines_from symbols.now spec.unreferred address 0 shown (take own bytes.now) (drop own bytes.now)) }
     ensures over { IfOk result (λ over. over ≡ spec.over_from address 0 shown (take own bytes.now) (drop own bytes.now)) }
 {
     let mut index = shown;
@@ -183,6 +192,7 @@ pub(crate) fn put_lines(
         index += put_line(
             text,
             symbols,
+            &no_references(),
             location_after(address, index),
             &bytes[index..],
         )?;

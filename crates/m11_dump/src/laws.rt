@@ -5,9 +5,11 @@ ghost use Rattle.std.specs.List.{AllByRecursion};
 ghost use Rattle.m11_base.specs.Devices.{Bytes};
 ghost use Rattle.m11_base.specs.Octal.{octal_text, octal_value};
 ghost use Rattle.m11_dump.specs.BesideLaws.{AreBeside, IsShownAfter, IsShownBeside};
+ghost use Rattle.m11_base_disassembly.specs.declared.references.References.{References};
 ghost use Rattle.m11_base_disassembly.specs.declared.symbols.Symbol.{Symbol};
+ghost use Rattle.m11_base_disassembly.specs.References.{no_references};
 ghost use Rattle.m11_base_disassembly.specs.Texts.{statement_text};
-ghost use Rattle.m11_dump.specs.Instructions.{AreLines, front_source, front_statement, lines, lines_from, over_from};
+ghost use Rattle.m11_dump.specs.Instructions.{AreLines, front_source, front_statement, lines, lines_from, over_from, unreferred};
 ghost use Rattle.m11_obj.specs.declared.relocations.Relocation.{Relocation};
 ghost use Rattle.m11_obj_blocks.specs.Blocks.{first_block};
 ghost use Rattle.m11_dump.specs.Positions.{LiesAt, content_start};
@@ -32,11 +34,11 @@ pub fn each_byte_is_shown_once_in_order()
     ensures order { (address byte : ℕ) (before following : Bytes)
         → octets address (before ++ byte ∷ following) ≡ octets address before
         ++ (octet address (length before) byte ++ octets_from address (length before + 1) following) }
-    ensures lines { (symbols : List Symbol) (address : ℕ) (bytes : Bytes)
-        → (all : List Bytes) × AreLines address 0 all bytes (lines symbols address bytes) }
-    ensures joined { (symbols : List Symbol) (address shown : ℕ) (bytes beyond : Bytes) → (all : List Bytes)
+    ensures lines { (symbols : List Symbol) (references : ℕ → References) (address : ℕ) (bytes : Bytes)
+        → (all : List Bytes) × AreLines address 0 all bytes (lines symbols references address bytes) }
+    ensures joined { (symbols : List Symbol) (references : ℕ → References) (address shown : ℕ) (bytes beyond : Bytes) → (all : List Bytes)
         × AreLines address shown all (drop shown (bytes ++ take (over_from address 0 shown bytes beyond) beyond))
-        (lines_from symbols address 0 shown bytes beyond) }
+        (lines_from symbols references address 0 shown bytes beyond) }
     ensures within { (address shown : ℕ) (bytes beyond : Bytes) → shown ≤ length bytes
         → over_from address 0 shown bytes beyond ≤ length beyond }
     ensures spelled { (byte : ℕ) → byte < 256 → octal_value (octal3 byte) ≡ byte }
@@ -53,10 +55,11 @@ pub fn each_word_is_shown_once_in_order()
     ensures spelled { (low high : ℕ) → low < 256 → high < 256 → octal_value (octal_text (low + 256 * high)) ≡ low + 256 * high }
 {}
 
-/// Without symbols, the source in a line is the text of its statement alone, without a comment.
+/// Without symbols and references, the source in a line is the text of its statement alone, with numbers for addresses and without a comment.
 #[tactic(auto, using(crate::proofs::EachLine::statement_alone))]
 pub fn lines_without_names_end_with_their_statements()
-    ensures { (location : ℕ) (bytes : Bytes) → front_source [] location bytes ≡ statement_text (front_statement location bytes) }
+    ensures { (location : ℕ) (bytes : Bytes) → front_source [] no_references location bytes
+        ≡ statement_text [] no_references (front_statement location bytes) }
 {}
 
 /// If a block begins where another ends, both together have the same lines of instructions as one block with the bytes of both,
@@ -64,16 +67,17 @@ pub fn lines_without_names_end_with_their_statements()
 #[tactic(auto, using(crate::proofs::JoinedBlocks::shown_as_one))]
 pub fn blocks_that_go_on_are_shown_as_one()
     ensures { (symbols : List Symbol) (address shown : ℕ) (bytes next beyond : Bytes) → take 5 (next ++ beyond) ≡ take 5 next
-        → lines_from symbols address 0 shown (bytes ++ next) beyond ≡ lines_from symbols address 0 shown bytes (take 5 next)
-        ++ lines_from symbols (location_after address (length bytes)) 0 (over_from address 0 shown bytes (take 5 next)) next beyond }
+        → lines_from symbols unreferred address 0 shown (bytes ++ next) beyond
+        ≡ lines_from symbols unreferred address 0 shown bytes (take 5 next)
+        ++ lines_from symbols unreferred (location_after address (length bytes)) 0 (over_from address 0 shown bytes (take 5 next)) next beyond }
 {}
 
 /// The lines of a text with relocations beside them are its lines without relocations, with the relocations of each byte inserted
 /// in the order of the bytes.
 #[tactic(auto, using(crate::proofs::EachPlace::places_beside))]
 pub fn relocations_stand_beside_lines()
-    ensures { (others : ℕ → Bytes) (address index shown : ℕ) (bytes beyond : Bytes) → (pieces : List (Bytes × Bytes))
-        × AreBeside others address index shown bytes beyond pieces }
+    ensures { (references : ℕ → References) (others : ℕ → Bytes) (address index shown : ℕ) (bytes beyond : Bytes)
+        → (pieces : List (Bytes × Bytes)) × AreBeside references others address index shown bytes beyond pieces }
 {}
 
 /// Each relocation of a text is shown exactly once: beside the line of one byte, or after the text.

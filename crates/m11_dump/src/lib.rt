@@ -24,6 +24,7 @@ mod entries;
 mod held;
 mod objects;
 mod records;
+mod references;
 mod relocations;
 mod stand;
 mod taking;

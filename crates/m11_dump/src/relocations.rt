@@ -1,6 +1,6 @@
 //! The lines of relocations.
 
-ghost use Rattle.std.specs.Prelude.{◌≡◌, ◌≤◌, ◌+◌, ◌++◌, length, IfOk};
+ghost use Rattle.std.specs.Prelude.{◌≡◌, ◌<◌, ◌≤◌, ◌+◌, ◌++◌, length, IfOk};
 ghost use Rattle.arrayvec.specs.ArrayVec.{array_vec_len};
 ghost use Rattle.m11_dump.specs.Relocations as spec;
 ghost use Rattle.m11_obj.specs.Reading.{record_relocations};
@@ -135,6 +135,14 @@ pub(crate) fn stores(target: &Target) -> bool
         target,
         Target::LocationCounterDefinition(_, _) | Target::LocationCounterModification(_)
     )
+}
+
+/// Whether a relocation stores a value that begins at the byte with this index in its text.
+pub(crate) fn names_byte(index: usize, place: &Relocation) -> bool
+    requires { index < 65540 }
+    ensures { result ≡ spec.names_byte index place.now }
+{
+    stores(&place.target) && usize::from(place.displacement) == index + 4
 }
 
 // The location of a relocation in six octal digits, or six blanks if it stores nothing.

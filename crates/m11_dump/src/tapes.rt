@@ -261,14 +261,14 @@ fn show_end<S: Sink>(
 }
 
 /// Writes the lines of a tape's blocks, those of each block when the next one is read, and finally its start address. In a dump as
-/// instructions the last line of a block includes the first words of the next block if the instruction continues there, and each
-/// line ends with a comment that names its address by the nearest of the globals `symbols` at or below it, if there is one. Nothing
-/// is read after the transfer block.
+/// instructions the last line of a block includes the first words of the next block if the instruction continues there. `symbols` name
+/// addresses in operands, and each line has a comment that names its address by the nearest of them at or below it, if there is one.
+/// Nothing is read after the transfer block.
 ///
 /// Errors, each with the number of its block and the byte that shows it: `Tape`, if the bytes aren't a block, or the feed failed, ended
 /// without a transfer block or has more bytes than a tape may have; `Write`, if the sink failed, after part of a block's lines was
 /// written; `NoMemory`, if memory was refused for a block's data or lines. A wrong or missing sum byte is a fault of its own block, whose
-/// lines are written before it is read. The lines of all blocks before a fault are written first.
+/// lines are written nevertheless. The lines of all blocks before a fault are written first.
 pub fn dump_tape<F: Feed, S: Sink>(
     alloc: Global,
     view: View,

@@ -6,6 +6,7 @@ use Rattle.std.specs.Fmt.{decimal}
 use Rattle.m11_base.specs.Devices.{Bytes}
 use Rattle.m11_base.specs.Octal.{octal_text}
 use Rattle.m11_base_disassembly.specs.Instructions.{statement_of}
+use Rattle.m11_base_disassembly.specs.References.{no_references}
 use Rattle.m11_base_disassembly.specs.Symbols.{address_name}
 use Rattle.m11_base_disassembly.specs.Texts.{statement_text}
 use Rattle.m11_cpu_machine.specs.declared.machine.Machine.{Machine}
@@ -19,10 +20,11 @@ use Rattle.m11_base_disassembly.specs.declared.symbols.Symbol.{Symbol}
 abbrev pub place_text : List Symbol → ℕ → Bytes
 place_text symbols address = octal_text address ++ address_name (codes " ") symbols address
 
--- the line of source of the instruction with these words at this location; empty if there are no words
-abbrev pub source_text : ℕ → List ℕ → Bytes
-source_text location [] = []
-source_text location (word ∷ more) = statement_text (statement_of location word more)
+-- the line of source of the instruction with these words at this location, with the names that these symbols give to addresses in operands;
+-- empty if there are no words
+abbrev pub source_text : List Symbol → ℕ → List ℕ → Bytes
+source_text symbols location [] = []
+source_text symbols location (word ∷ more) = statement_text symbols no_references (statement_of location word more)
 
 -- the field of a register if its value changed; otherwise nothing
 abbrev pub register_change : Bytes → ℕ → ℕ → Bytes
@@ -60,7 +62,7 @@ location_of shot = numbered shot.before.registers 7
 unfoldable pub line_front : List Symbol → ℕ → Shot → Bytes
 line_front symbols number shot =
     decimal number ++ (9 ∷ (place_text symbols (location_of shot)
-    ++ (9 ∷ (source_text (location_of shot) (words_in shot.fetched) ++ register_changes shot.before.registers shot.later.registers))))
+    ++ (9 ∷ (source_text symbols (location_of shot) (words_in shot.fetched) ++ register_changes shot.before.registers shot.later.registers))))
 
 -- the part of a trace line after its memory words
 abbrev pub line_end : Shot → Bytes

@@ -9,13 +9,13 @@ use arrayvec::ArrayVec;
 use m11_base::{Sink, octal6, put_all};
 use m11_cpu::SimFault;
 
-/// A line or a part of one. The line of a step takes at most 189 bytes without its memory words. Of these, 40 are reserved for its number:
+/// A line or a part of one. The line of a step takes at most 197 bytes without its memory words. Of these, 40 are reserved for its number:
 /// the number has at most ten digits, but `itoa` promises only that a number takes at most 40 bytes.
-pub(crate) type Line = ArrayVec<u8, 196>;
+pub(crate) type Line = ArrayVec<u8, 204>;
 
 /// Adds bytes, for which the line must have room.
 pub(crate) fn add(line: &mut Line, bytes: &[u8])
-    requires { array_vec_len line.old + length bytes.now ≤ 196 }
+    requires { array_vec_len line.old + length bytes.now ≤ 204 }
     ensures items { line.new.items ≡ line.old.items ++ bytes.now }
     ensures size { array_vec_len line.new ≡ array_vec_len line.old + length bytes.now }
 {
@@ -24,7 +24,7 @@ pub(crate) fn add(line: &mut Line, bytes: &[u8])
 
 /// Adds a label and a word in six octal digits.
 pub(crate) fn add_word(line: &mut Line, label: &[u8], word: u16)
-    requires { array_vec_len line.old + (length label.now + 6) ≤ 196 }
+    requires { array_vec_len line.old + (length label.now + 6) ≤ 204 }
     ensures items { line.new.items ≡ line.old.items ++ (label.now ++ octal_text word) }
     ensures size { array_vec_len line.new ≡ array_vec_len line.old + (length label.now + 6) }
 {

@@ -8,7 +8,7 @@ ghost use Rattle.m11_trace.specs.Lines as spec;
 use crate::line::{Line, add, add_word};
 use crate::shots::{InstructionWords, Shot};
 use itoa::Buffer;
-use m11_base_disassembly::{Symbol, address_name, disassembled};
+use m11_base_disassembly::{Symbol, address_name, disassembled, no_references};
 
 // Adds an address in octal, and after a blank its name: the nearest of these symbols at or below it, with the distance from that
 // symbol; no name if there is no such symbol.
@@ -21,28 +21,30 @@ fn add_place(line: &mut Line, symbols: &[Symbol], address: u16)
     add(line, &address_name(b" ", symbols, address));
 }
 
-// Adds the line of source of the instruction with these words at this location.
-fn add_words(line: &mut Line, location: u16, word: u16, more: &[u16])
+// Adds the line of source of the instruction with these words at this location, with the names that these symbols give to addresses in
+// operands.
+fn add_words(line: &mut Line, symbols: &[Symbol], location: u16, word: u16, more: &[u16])
     requires { array_vec_len line.old ≤ 76 }
-    ensures items { line.new.items ≡ line.old.items ++ spec.source_text location (word ∷ more.now) }
-    ensures size { array_vec_len line.new ≤ array_vec_len line.old + 40 }
+    ensures items { line.new.items ≡ line.old.items ++ spec.source_text symbols.now location (word ∷ more.now) }
+    ensures size { array_vec_len line.new ≤ array_vec_len line.old + 48 }
 {
-    let disassembly = disassembled(location, word, more);
+    let disassembly = disassembled(symbols, &no_references(), location, word, more);
     add(line, disassembly.source.as_slice());
 }
 
-// Adds the line of source of the instruction fetched at this location; nothing if no word was fetched.
-fn add_source(line: &mut Line, location: u16, fetched: InstructionWords)
+// Adds the line of source of the instruction fetched at this location, with these names; nothing if no word was fetched.
+fn add_source(line: &mut Line, symbols: &[Symbol], location: u16, fetched: InstructionWords)
     requires { array_vec_len line.old ≤ 76 }
-    ensures items { line.new.items ≡ line.old.items ++ spec.source_text location (words_in fetched) }
-    ensures size { array_vec_len line.new ≤ array_vec_len line.old + 40 }
+    ensures items { line.new.items ≡ line.old.items ++ spec.source_text symbols.now location (words_in fetched) }
+    ensures size { array_vec_len line.new ≤ array_vec_len line.old + 48 }
 {
     match (fetched.first, fetched.second, fetched.third) {
         (None, _, _) => {}
-        (Some(first), None, _) => add_words(line, location, first, &[]),
-        (Some(first), Some(second), None) => add_words(line, location, first, &[second]),
+        (Some(first), None, _) => add_words(line, symbols, location, first, &[]),
+        (Some(first), Some(second), None) => add_words(line, symbols, location, first, &[second]),
         (Some(first), Some(second), Some(third)) => add_words(
             line,
+            symbols,
             location,
             first,
             &[second, third],
@@ -52,7 +54,7 @@ fn add_source(line: &mut Line, location: u16, fetched: InstructionWords)
 
 // Adds a register if its value changed.
 fn add_change(line: &mut Line, name: &[u8; 3], before: u16, later: u16)
-    requires { array_vec_len line.old ≤ 186 }
+    requires { array_vec_len line.old ≤ 194 }
     ensures items { line.new.items ≡ line.old.items ++ spec.register_change name.now before later }
     ensures size { array_vec_len line.new ≤ array_vec_len line.old + 10 }
 {
@@ -64,7 +66,7 @@ fn add_change(line: &mut Line, name: &[u8; 3], before: u16, later: u16)
 
 // Adds the registers whose values changed, except the program counter, which the next line shows.
 fn add_registers(line: &mut Line, before: &[u16; 8], later: &[u16; 8])
-    requires { array_vec_len line.old ≤ 116 }
+    requires { array_vec_len line.old ≤ 124 }
     ensures items { line.new.items ≡ line.old.items ++ spec.register_changes before.now later.now }
     ensures size { array_vec_len line.new ≤ array_vec_len line.old + 70 }
 {
@@ -110,7 +112,7 @@ fn code_letters(psw: u16) -> [u8; 4]
 
 // Adds the processor status word, with the letters of its condition codes, if the word changed.
 fn add_status(line: &mut Line, before: u16, later: u16)
-    requires { array_vec_len line.old ≤ 174 }
+    requires { array_vec_len line.old ≤ 182 }
     ensures items { line.new.items ≡ line.old.items ++ spec.status_change before later }
     ensures size { array_vec_len line.new ≤ array_vec_len line.old + 16 }
 {
@@ -125,7 +127,7 @@ fn add_status(line: &mut Line, before: u16, later: u16)
 #[tactic(auto, unfolding(crate::specs::Lines::line_front))]
 pub(crate) fn line_front(symbols: &[Symbol], number: u32, shot: &Shot) -> Line
     ensures items { result.items ≡ spec.line_front symbols.now number shot.now }
-    ensures size { array_vec_len result ≤ 172 }
+    ensures size { array_vec_len result ≤ 180 }
 {
     let location = shot.before.registers[7];
     let mut line = Line::new();
@@ -133,14 +135,14 @@ pub(crate) fn line_front(symbols: &[Symbol], number: u32, shot: &Shot) -> Line
     add(&mut line, b"\t");
     add_place(&mut line, symbols, location);
     add(&mut line, b"\t");
-    add_source(&mut line, location, shot.fetched);
+    add_source(&mut line, symbols, location, shot.fetched);
     add_registers(&mut line, &shot.before.registers, &shot.later.registers);
     line
 }
 
 // Adds the part of a trace line after its memory words.
 fn add_end(line: &mut Line, shot: &Shot)
-    requires { array_vec_len line.old ≤ 172 }
+    requires { array_vec_len line.old ≤ 180 }
     ensures { line.new.items ≡ line.old.items ++ spec.line_end shot.now }
 {
     add_status(line, shot.before.psw, shot.later.psw);

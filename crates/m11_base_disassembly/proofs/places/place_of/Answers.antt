@@ -1,6 +1,6 @@
 use Rattle.std.proofs.Common.{refl}
 use Rattle.m11_base_disassembly.specs.Lines.{lines_of}
-use Rattle.m11_base_disassembly.proofs.FoundContributions.{no_place, place_behind, place_found}
+use Rattle.m11_base_disassembly.proofs.FoundContributions.{no_place, place_after, place_found}
 use Rattle.m11_base_disassembly.proofs.places.place_of.Goals as goal
 
 pub returns-in-Some : goal.returns-in-Some
@@ -11,7 +11,7 @@ returns-in-Some c =
 
 pub contributions-preserved : goal.contributions-preserved
 contributions-preserved c =
-    place_behind (lines_of c.args.sections.now) c.args.contributions.now c.contributions.invariant.0 c.contribution-item.result
+    place_after (lines_of c.args.sections.now) c.args.contributions.now c.contributions.invariant.0 c.contribution-item.result
     c.contributions.own.now _ c.in-len1-up.len_at_least c.contribution-item.is c.contributions.invariant.1
     c.contributions.invariant.2 c.in_default-after_module.ensures refl
 
