@@ -1,2 +1,2 @@
 pub mod Carried
-pub mod Places
+pub mod PlacesAdded

@@ -21,12 +21,12 @@ last_rule = record (option_rule (codes "last") 0o154) { parser = Some (Signed (p
 abbrev pub lines_rule : Rule
 lines_rule = option_rule (codes "output") 0o157
 
--- `-p OCTAL[:COUNT]`, `--place OCTAL[:COUNT]`: an address at which to stop, and how many times the program counter must reach it for
+-- `-p PLACE[:COUNT]`, `--place PLACE[:COUNT]`: an address at which to stop, and how many times the program counter must reach it for
 -- the run to stop
 abbrev pub breakpoint_rule : Rule
 breakpoint_rule = record (option_rule (codes "place") 0o160) { action = Some Append }
 
--- `-w OCTAL[:COUNT]`, `--watch OCTAL[:COUNT]`: a word to watch, and how many times steps must change it for the run to stop
+-- `-w PLACE[:COUNT]`, `--watch PLACE[:COUNT]`: a word to watch, and how many times steps must change it for the run to stop
 abbrev pub watch_rule : Rule
 watch_rule = record (option_rule (codes "watch") 0o167) { action = Some Append }
 
@@ -38,7 +38,7 @@ range_rule = record (option_rule (codes "range") 0o162) { action = Some Append }
 abbrev pub symbols_rule : Rule
 symbols_rule = record (option_rule (codes "symbols") 0o171) { action = Some Append }
 
--- `m11-trace [-n STEPS] [-s OCTAL] [-k WORDS] [-f FROM] [-l LAST] [-o FILE] [-p OCTAL[:COUNT]]... [-w OCTAL[:COUNT]]... [-r FIRST[:LAST]]...
+-- `m11-trace [-n STEPS] [-s OCTAL] [-k WORDS] [-f FROM] [-l LAST] [-o FILE] [-p PLACE[:COUNT]]... [-w PLACE[:COUNT]]... [-r FIRST[:LAST]]...
 -- [-y NAMES]... [-b OCTAL] TAPE`
 abbrev pub application : App
 application =

@@ -24,31 +24,34 @@ use Rattle.m11_tracer.specs.Outcome.{line_of, outcome_apart}
 use Rattle.m11_cli_reports.specs.Lines.{open_line}
 use Rattle.m11_cli_reports.specs.Refusals.{refused_line, refused_word}
 use Rattle.m11_cli_reports.specs.declared.refusals.RefusedValue.{RefusedValue}
+use Rattle.m11_cli_reports.specs.declared.refusals.Refusal.{Refusal}
 use Rattle.m11_cli_reports.specs.declared.refusals.Refusal.TheVariants as refusal
 use Rattle.m11_cli_reports.specs.Reports.{Explains, Reports}
 use Rattle.m11_cli_reports.specs.Streams.{Store, Streams, devices_of, store}
 use Rattle.m11_cli_tasks.specs.Opened.{texts}
+use Rattle.m11_tracer.specs.Places.{AsksFor, value_texts}
 use Rattle.m11_tracer.specs.Task.{Plans}
 use Rattle.m11_tracer.specs.declared.outcome.Outcome.{Outcome}
 use Rattle.m11_tracer.specs.declared.outcome.Outcome.TheVariants.{Usage, Refused, NotOpened, NoSymbols, LinesFailed, Ran}
+use Rattle.m11_tracer.specs.declared.places.Asked.{Asked}
 use Rattle.m11_tracer.specs.declared.task.TraceTask.{TraceTask}
 
 -- what was written to an output, and its failures
 abbrev pub written : OutputState → Output
 written state = output_of state.text state.faults
 
--- an open tape is run as the task says, with these symbols as the names of addresses
-abbrev pub RunsOpen : TraceTask → List Symbol → Input → Streams → Streams → Result Ending SimFault → Type 0
-RunsOpen task symbols tape before after result = (tape' : Input)
-    × Traces (request_of task.sim.start task.sim.words task.sim.limit) symbols task.from task.last task.stops task.ranges.items
+-- an open tape is run as the task says, with the stops and memory ranges that its values ask for, and these symbols as the names of addresses
+abbrev pub RunsOpen : TraceTask → Asked → List Symbol → Input → Streams → Streams → Result Ending SimFault → Type 0
+RunsOpen task asked symbols tape before after result = (tape' : Input)
+    × Traces (request_of task.sim.start task.sim.words task.sim.limit) symbols task.from task.last asked.stops asked.ranges.items
     (devices_of tape before) (devices_of tape' after) result
 
 -- an open tape is run as the task says, and its lines go to the file at this path, which has been created with this output: the bytes that
 -- the output received become the contents of the file
-abbrev pub RunsApart : TraceTask → Bytes → List Symbol → Input → OutputState → Store → Store → Streams → Streams → Result Ending ApartFault
+abbrev pub RunsApart : TraceTask → Asked → Bytes → List Symbol → Input → OutputState → Store → Store → Streams → Streams → Result Ending ApartFault
     → Type 0
-RunsApart task path symbols tape lines old new before after result = (tape' : Input) × (lines' : OutputState)
-    × TracesApart (request_of task.sim.start task.sim.words task.sim.limit) symbols task.from task.last task.stops task.ranges.items
+RunsApart task asked path symbols tape lines old new before after result = (tape' : Input) × (lines' : OutputState)
+    × TracesApart (request_of task.sim.start task.sim.words task.sim.limit) symbols task.from task.last asked.stops asked.ranges.items
     (devices_of tape before) (devices_of tape' after) (written lines) (written lines') lines'.held result
     × (new ≡ store (keeping path (handed_on lines'.text lines'.held) old.files) old.refusals)
 
@@ -59,44 +62,58 @@ RefusesLines path old new reported reported' =
 
 -- an open tape is run as the task says, with its lines in a file at this path, which is created empty; or the file can't be created; or memory
 -- is refused before the run
-abbrev pub RunsInto : TraceTask → Bytes → List Symbol → Input → Store → Store → Streams → Streams → Outcome → Type 0
-RunsInto task path symbols tape old new before after outcome =
+abbrev pub RunsInto : TraceTask → Asked → Bytes → List Symbol → Input → Store → Store → Streams → Streams → Outcome → Type 0
+RunsInto task asked path symbols tape old new before after outcome =
     ((lines : OutputState) × (result : Result Ending ApartFault) × IsEmptied old.files lines.text
-    × RunsApart task path symbols tape lines (store (creating (path ∷ []) old.files) old.refusals) new before after result
+    × RunsApart task asked path symbols tape lines (store (creating (path ∷ []) old.files) old.refusals) new before after result
     × (outcome ≡ outcome_apart result))
     ⊎ (((outcome ≡ NotOpened) × (after.input ≡ before.input) × (after.printed ≡ before.printed)
     × RefusesLines path old new before.reported after.reported)
     ⊎ ((outcome ≡ Ran (Err NoMemory)) × (after ≡ before) × (new ≡ old)))
 
 -- an open tape is run as the task says: with its lines among the reports, and the files stay as they were; or with its lines in a file
-abbrev pub RunsBy : Option (Bor Bytes) → TraceTask → List Symbol → Input → Store → Store → Streams → Streams → Outcome → Type 0
-RunsBy None task symbols tape old new before after outcome = (result : Result Ending SimFault)
-    × RunsOpen task symbols tape before after result × (new ≡ old) × (outcome ≡ Ran result)
-RunsBy (Some path) task symbols tape old new before after outcome =
-    RunsInto task path.now symbols tape old new before after outcome
+abbrev pub RunsBy : Option (Bor Bytes) → TraceTask → Asked → List Symbol → Input → Store → Store → Streams → Streams → Outcome → Type 0
+RunsBy None task asked symbols tape old new before after outcome = (result : Result Ending SimFault)
+    × RunsOpen task asked symbols tape before after result × (new ≡ old) × (outcome ≡ Ran result)
+RunsBy (Some path) task asked symbols tape old new before after outcome =
+    RunsInto task asked path.now symbols tape old new before after outcome
 
 -- the file at the task's path is run as its tape
-abbrev pub RunsTape : TraceTask → List Symbol → Store → Store → Streams → Streams → Outcome → Type 0
-RunsTape task symbols old new before after outcome = (tape : Input) × Holds old.files task.sim.tape.now tape.text
-    × RunsBy task.lines task symbols tape old new before after outcome
+abbrev pub RunsTape : TraceTask → Asked → List Symbol → Store → Store → Streams → Streams → Outcome → Type 0
+RunsTape task asked symbols old new before after outcome = (tape : Input) × Holds old.files task.sim.tape.now tape.text
+    × RunsBy task.lines task asked symbols tape old new before after outcome
 
 -- the file at this path can't be opened, and that is reported
 abbrev pub RefusesFile : Bytes → Store → Store → OutputState → OutputState → Type 0
 RefusesFile path old new reported reported' = Lacks old.files path × Rises old.refusals new.refusals
     × (new.files ≡ old.files) × Reports (open_line path) reported reported'
 
--- the outcome of a task with these symbols as the names of addresses: the tape can't be opened; or it is run, unless the file for its lines
+-- the outcome of a task whose values ask for this, with these symbols as the names of addresses: the tape can't be opened; or it is run, unless the file for its lines
 -- can't be created; or memory is refused before the run
-abbrev pub CarriesNamed : TraceTask → List Symbol → Outcome → Store → Store → Streams → Streams → Type 0
-CarriesNamed task symbols NotOpened old new before after = RunsTape task symbols old new before after NotOpened
+abbrev pub CarriesNamed : TraceTask → Asked → List Symbol → Outcome → Store → Store → Streams → Streams → Type 0
+CarriesNamed task asked symbols NotOpened old new before after = RunsTape task asked symbols old new before after NotOpened
     ⊎ ((after.input ≡ before.input) × (after.printed ≡ before.printed)
     × RefusesFile task.sim.tape.now old new before.reported after.reported)
-CarriesNamed task symbols (Ran result) old new before after = RunsTape task symbols old new before after (Ran result)
+CarriesNamed task asked symbols (Ran result) old new before after = RunsTape task asked symbols old new before after (Ran result)
     ⊎ ((result ≡ Err NoMemory) × (after ≡ before) × (new ≡ old))
-CarriesNamed task symbols LinesFailed old new before after = RunsTape task symbols old new before after LinesFailed
-CarriesNamed task symbols (NoSymbols fault) old new before after = ⊥
-CarriesNamed task symbols (Usage fault) old new before after = ⊥
-CarriesNamed task symbols Refused old new before after = ⊥
+CarriesNamed task asked symbols LinesFailed old new before after = RunsTape task asked symbols old new before after LinesFailed
+CarriesNamed task asked symbols (NoSymbols fault) old new before after = ⊥
+CarriesNamed task asked symbols (Usage fault) old new before after = ⊥
+CarriesNamed task asked symbols Refused old new before after = ⊥
+
+-- a value isn't an address among the symbols, which is reported; or memory is refused, which isn't reported here
+abbrev pub RefusesPlaces : Refusal → Outcome → OutputState → OutputState → Type 0
+RefusesPlaces (refusal.Value value) outcome reported reported' =
+    (outcome ≡ Refused) × Reports (refused_line (refused_word value)) reported reported'
+RefusesPlaces (refusal.Usage fault) outcome reported reported' = (outcome ≡ Ran (Err NoMemory)) × (reported' ≡ reported)
+
+-- the outcome of a task with these symbols: it is carried out with the stops and memory ranges that its values ask for; or they ask for none,
+-- and nothing is run
+abbrev pub CarriesAsked : TraceTask → List Symbol → Outcome → Store → Store → Streams → Streams → Type 0
+CarriesAsked task symbols outcome old new before after =
+    ((asked : Asked) × AsksFor (Some symbols) (value_texts task.values) (Ok asked) × CarriesNamed task asked symbols outcome old new before after)
+    ⊎ ((refused : Refusal) × AsksFor (Some symbols) (value_texts task.values) (Err refused) × (new ≡ old) × (after.input ≡ before.input)
+    × (after.printed ≡ before.printed) × RefusesPlaces refused outcome before.reported after.reported)
 
 -- why there are no names is reported: the file of names at a path can't be opened, or it gives none
 abbrev pub RefusesNames : NoNames → Outcome → OutputState → OutputState → Type 0
@@ -114,7 +131,7 @@ GoesWithout none outcome old new before after = (new.files ≡ old.files) × (af
 abbrev pub Carries : {I : Type 0} → (I → Option feed.Text) → (I → ℕ) → TraceTask → Outcome → Store → Store → Streams → Streams → Type 0
 Carries text faults task outcome old new before after =
     ((symbols : List Symbol) × Names text faults task.bottom old.files (texts task.names.items) symbols
-    × CarriesNamed task symbols outcome old new before after)
+    × CarriesAsked task symbols outcome old new before after)
     ⊎ ((none : NoNames) × NoneNamed text faults task.bottom old.files (texts task.names.items) none
     × GoesWithout none outcome old new before after)
 
@@ -124,12 +141,14 @@ RefusesValue words reported reported' =
     (value : RefusedValue) × Plans words (Err (refusal.Value value)) × Reports (refused_line (refused_word value)) reported reported'
 
 -- the parser refuses the command line, or it asks for help, or memory is refused: the parser's text, if there is one, is written, and no
--- file is opened; or a value of it is refused, and no file is opened; or the task that the command line asks for is carried out
+-- file is opened; or a value of it is refused, whatever its name means, and no file is opened; or the task that the command line asks for is
+-- carried out
 abbrev pub HasOutcome : {I : Type 0} → (I → Option feed.Text) → (I → ℕ) → List Text → Outcome → Store → Store → Streams → Streams → Type 0
 HasOutcome text faults words (Usage fault) old new before after = Plans words (Err (refusal.Usage fault)) × (new ≡ old)
     × (after.input ≡ before.input) × Explains fault before.printed after.printed before.reported after.reported
-HasOutcome text faults words Refused old new before after = RefusesValue words before.reported after.reported × (new ≡ old)
-    × (after.input ≡ before.input) × (after.printed ≡ before.printed)
+HasOutcome text faults words Refused old new before after =
+    (RefusesValue words before.reported after.reported × (new ≡ old) × (after.input ≡ before.input) × (after.printed ≡ before.printed))
+    ⊎ ((task : TraceTask) × Plans words (Ok task) × Carries text faults task Refused old new before after)
 HasOutcome text faults words outcome old new before after =
     (task : TraceTask) × Plans words (Ok task) × Carries text faults task outcome old new before after
 

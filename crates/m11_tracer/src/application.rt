@@ -63,21 +63,22 @@ fn lines_argument<'a>(alloc: Global) -> Arg<'a>
     )
 }
 
-// `-p OCTAL[:COUNT]`, any number of times. The parser accepts any text. Addresses and counts are checked once the parser has accepted all
-// words, so a fault of the words is reported first.
+// `-p PLACE[:COUNT]`, any number of times. The parser accepts any text. Addresses and counts are checked once the parser has accepted all
+// words, so a fault of the words is reported first; names are looked up once the files of `-y` have been read.
 fn breakpoint_argument<'a>(alloc: Global) -> Arg<'a>
     ensures { IsArgument breakpoint_rule result }
 {
-    let help = "An address to stop at the COUNTth time, before its instruction: even, up to 157776";
-    option_argument(alloc, "place", 'p', "OCTAL[:COUNT]", help).action(ArgAction::Append)
+    let help =
+        "An address to stop at the COUNTth time: even, up to 157776, or a name of -y, with +OCTAL";
+    option_argument(alloc, "place", 'p', "PLACE[:COUNT]", help).action(ArgAction::Append)
 }
 
-// `-w OCTAL[:COUNT]`, any number of times. The parser accepts any text, as for `-p`.
+// `-w PLACE[:COUNT]`, any number of times. The parser accepts any text, as for `-p`.
 fn watch_argument<'a>(alloc: Global) -> Arg<'a>
     ensures { IsArgument watch_rule result }
 {
     let help = "A word to stop at, after the COUNTth step that changes it: an address as of -p";
-    option_argument(alloc, "watch", 'w', "OCTAL[:COUNT]", help).action(ArgAction::Append)
+    option_argument(alloc, "watch", 'w', "PLACE[:COUNT]", help).action(ArgAction::Append)
 }
 
 // `-r FIRST[:LAST]`, any number of times. The parser accepts any text, as for `-p`.

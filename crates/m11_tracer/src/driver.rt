@@ -7,17 +7,18 @@ ghost use Rattle.m11_cli_reports.specs.Reports.{Reports};
 ghost use Rattle.m11_cli_reports.specs.Streams.{store, streams};
 ghost use Rattle.m11_cli_tasks.specs.Tasks.{IsDoable};
 ghost use Rattle.m11_cli_tasks.specs.declared.tasks.Task.TheVariants.{Sim};
-ghost use Rattle.m11_tracer.specs.Driver.{Carries, CarriesNamed, HasOutcome, Obeys, RefusesNames, RunsApart, RunsInto, RunsOpen};
+ghost use Rattle.m11_tracer.specs.Driver.{Carries, CarriesAsked, CarriesNamed, HasOutcome, Obeys, RefusesNames, RefusesPlaces, RunsApart, RunsInto, RunsOpen};
 ghost use Rattle.m11_tracer.specs.Outcome.{line_of, status_of};
 ghost use Rattle.m11_tracer.specs.declared.outcome.Outcome.{Outcome};
 
 use crate::outcome::{Outcome, line, outcome_apart, status};
+use crate::places::{Asked, asked_of};
 use crate::reports::report_no_names;
 use crate::task::{TraceTask, plan};
 use m11_base::{Feed, Sink};
 use m11_base_disassembly::Symbol;
 use m11_base_files::{OpenRefusal, Opens};
-use m11_cli_reports::{Refusal, explain, report, report_not_opened, report_refused};
+use m11_cli_reports::{Refusal, RefusedValue, explain, report, report_not_opened, report_refused};
 use m11_cpu::SimFault;
 use m11_link_load_map::{NoNames, read_names};
 use m11_trace::{ApartFault, Ending, trace_apart, trace_run};
@@ -120,8 +121,49 @@ where
         (streams I.Feed O.Sink E.Sink input.new out.new err.new) }
 {
     match read_names(alloc, files, task.bottom, task.names.as_slice()) {
-        Ok(symbols) => carry_named(alloc, files, input, out, err, task, symbols.as_slice()),
+        Ok(symbols) => carry_asked(alloc, files, input, out, err, task, symbols.as_slice()),
         Err(none) => refuse_names(none, err),
+    }
+}
+
+// Carries out a task with the stops and memory ranges that its values ask for. A value that isn't an address among these symbols is reported;
+// if memory is refused, the result is `NoMemory`. In both cases nothing is run.
+fn carry_asked<F, I, O, E>(
+    alloc: Global,
+    files: &mut F,
+    input: &mut I,
+    out: &mut O,
+    err: &mut E,
+    task: &TraceTask<'_>,
+    symbols: &[Symbol],
+) -> Outcome
+where
+    F: Opens,
+    I: Feed,
+    O: Sink,
+    E: Sink,
+    requires { IsDoable (Sim task.now.sim) }
+    ensures { CarriesAsked task.now symbols.now result
+        (store (F.files files.old) (F.refusals files.old)) (store (F.files files.new) (F.refusals files.new))
+        (streams I.Feed O.Sink E.Sink input.old out.old err.old)
+        (streams I.Feed O.Sink E.Sink input.new out.new err.new) }
+{
+    match asked_of(alloc, Some(symbols), &task.values) {
+        Ok(asked) => carry_named(alloc, files, input, out, err, task, &asked, symbols),
+        Err(refusal) => refuse_places(refusal, err),
+    }
+}
+
+// Reports a value that isn't an address among the symbols, and returns the outcome.
+fn refuse_places<E: Sink>(refusal: Refusal<'_>, err: &mut E) -> Outcome
+    ensures { RefusesPlaces refusal.entry result (output_of E.Sink err.old) (output_of E.Sink err.new) }
+{
+    match refusal {
+        Refusal::Value(value) => {
+            report_refused(&value, err);
+            Outcome::Refused
+        }
+        Refusal::Usage(_) => Outcome::Ran(Err(SimFault::NoMemory)),
     }
 }
 
@@ -150,6 +192,7 @@ fn carry_named<F, I, O, E>(
     out: &mut O,
     err: &mut E,
     task: &TraceTask<'_>,
+    asked: &Asked,
     symbols: &[Symbol],
 ) -> Outcome
 where
@@ -158,15 +201,17 @@ where
     O: Sink,
     E: Sink,
     requires { IsDoable (Sim task.now.sim) }
-    ensures { CarriesNamed task.now symbols.now result
+    ensures { CarriesNamed task.now asked.now symbols.now result
         (store (F.files files.old) (F.refusals files.old)) (store (F.files files.new) (F.refusals files.new))
         (streams I.Feed O.Sink E.Sink input.old out.old err.old)
         (streams I.Feed O.Sink E.Sink input.new out.new err.new) }
 {
     match files.open(task.sim.tape) {
         Ok(tape) => match task.lines {
-            None => Outcome::Ran(run_tape(alloc, tape, input, out, err, task, symbols)),
-            Some(path) => run_into(alloc, files, tape, path, input, out, err, task, symbols),
+            None => Outcome::Ran(run_tape(alloc, tape, input, out, err, task, asked, symbols)),
+            Some(path) => run_into(
+                alloc, files, tape, path, input, out, err, task, asked, symbols,
+            ),
         },
         Err(OpenRefusal::NotOpened) => {
             report_not_opened(task.sim.tape, err);
@@ -187,6 +232,7 @@ fn run_into<F, I, O, E>(
     out: &mut O,
     err: &mut E,
     task: &TraceTask<'_>,
+    asked: &Asked,
     symbols: &[Symbol],
 ) -> Outcome
 where
@@ -195,14 +241,14 @@ where
     O: Sink,
     E: Sink,
     requires { IsDoable (Sim task.now.sim) }
-    ensures { RunsInto task.now path.now symbols.now (input_of (F.Input.text tape) (F.Input.faults tape))
+    ensures { RunsInto task.now asked.now path.now symbols.now (input_of (F.Input.text tape) (F.Input.faults tape))
         (store (F.files files.old) (F.refusals files.old)) (store (F.files files.new) (F.refusals files.new))
         (streams I.Feed O.Sink E.Sink input.old out.old err.old)
         (streams I.Feed O.Sink E.Sink input.new out.new err.new) result }
 {
     match files.create(path) {
         Ok(lines) => outcome_apart(run_apart(
-            alloc, files, tape, path, lines, input, out, err, task, symbols,
+            alloc, files, tape, path, lines, input, out, err, task, asked, symbols,
         )),
         Err(OpenRefusal::NotOpened) => {
             report_not_opened(path, err);
@@ -223,6 +269,7 @@ fn run_apart<F, I, O, E>(
     out: &mut O,
     err: &mut E,
     task: &TraceTask<'_>,
+    asked: &Asked,
     symbols: &[Symbol],
 ) -> Result<Ending, ApartFault>
 where
@@ -231,7 +278,7 @@ where
     O: Sink,
     E: Sink,
     requires { IsDoable (Sim task.now.sim) }
-    ensures { RunsApart task.now path.now symbols.now (input_of (F.Input.text tape) (F.Input.faults tape))
+    ensures { RunsApart task.now asked.now path.now symbols.now (input_of (F.Input.text tape) (F.Input.faults tape))
         (output_of F.Output.Sink lines)
         (store (F.files files.old) (F.refusals files.old)) (store (F.files files.new) (F.refusals files.new))
         (streams I.Feed O.Sink E.Sink input.old out.old err.old)
@@ -249,8 +296,8 @@ where
         symbols,
         task.from,
         task.last,
-        &task.stops,
-        task.ranges.as_slice(),
+        &asked.stops,
+        asked.ranges.as_slice(),
         input,
         out,
         &mut lines,
@@ -268,10 +315,11 @@ fn run_tape<T: Feed + Drop, I: Feed, O: Sink, E: Sink>(
     out: &mut O,
     err: &mut E,
     task: &TraceTask<'_>,
+    asked: &Asked,
     symbols: &[Symbol],
 ) -> Result<Ending, SimFault>
     requires { IsDoable (Sim task.now.sim) }
-    ensures { RunsOpen task.now symbols.now (input_of (T.text tape) (T.faults tape))
+    ensures { RunsOpen task.now asked.now symbols.now (input_of (T.text tape) (T.faults tape))
         (streams I.Feed O.Sink E.Sink input.old out.old err.old)
         (streams I.Feed O.Sink E.Sink input.new out.new err.new) result }
 {
@@ -286,8 +334,8 @@ fn run_tape<T: Feed + Drop, I: Feed, O: Sink, E: Sink>(
         symbols,
         task.from,
         task.last,
-        &task.stops,
-        task.ranges.as_slice(),
+        &asked.stops,
+        asked.ranges.as_slice(),
         input,
         out,
         err,

@@ -4,6 +4,7 @@
 
 // The command line, and the run that it asks for.
 mod application;
+mod places;
 mod task;
 
 // The outcome, its line and its exit status, and the line for a file that gives no names.

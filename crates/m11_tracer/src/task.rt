@@ -1,24 +1,19 @@
 //! What a command line asks for.
 
-ghost use Rattle.std.specs.Prelude.{◌≡◌, IfOk, map, option_map};
-ghost use Rattle.std.specs.List.{before_first};
+ghost use Rattle.std.specs.Prelude.{◌≡◌, IfOk, map};
 ghost use Rattle.clap.specs.Words.{found_of, rows_of};
-ghost use Rattle.m11_cli_tasks.specs.Opened.{texts};
 ghost use Rattle.m11_cli_reports.specs.Refusals.{of_words};
 ghost use Rattle.m11_cli_tasks.specs.Tasks.{IsDoable};
 ghost use Rattle.m11_cli_tasks.specs.declared.tasks.Task.TheVariants.{Sim};
-ghost use Rattle.m11_tracer.specs.Task.{AddsCounted, AddsRanges, EntriesHaveResult, Plans, after_colon, counted_of, first_shown, is_colon, last_shown};
-ghost use Rattle.m11_tracer.specs.Task.{range_of};
+ghost use Rattle.m11_tracer.specs.Places.{value_texts};
+ghost use Rattle.m11_tracer.specs.Task.{EntriesHaveResult, Plans, first_shown, last_shown, values_of};
 
 use crate::application::application_command;
+use crate::places::{Values, asked_of};
 use clap::ArgMatches;
-use m11_cli_reports::{AddressOption, Refusal, reading, single_reading};
-use m11_cli_tasks::{
-    SimTask, UsageFault, address, all_texts, bottom_option, count, number_option, sim_task,
-    text_argument,
-};
-use m11_trace::{CountedAddress, Range, Stops};
-use std::alloc::Global;
+use m11_cli_reports::{AddressOption, Refusal, single_reading};
+use m11_cli_tasks::{SimTask, all_texts, bottom_option, number_option, sim_task, text_argument};
+use std::alloc::{AllocError, Global};
 use std::convert::AsStr;
 
 /// What a traced run is to do.
@@ -33,10 +28,8 @@ pub struct TraceTask<'a> {
     pub last: u16,
     /// The path of the file for the trace lines; None writes them to standard error.
     pub lines: Option<&'a str>,
-    /// The breakpoints and the words to watch, with even addresses up to octal 157776 and counts of 1 to 1,000,000,000.
-    pub stops: Stops,
-    /// The memory ranges to show at the end, with even addresses up to octal 157776.
-    pub ranges: Vec<Range>,
+    /// The values of the breakpoints, the words to watch and the memory ranges. None of them is refused, whatever its names mean.
+    pub values: Values<'a>,
     /// The paths of the files that name addresses, in order.
     pub names: Vec<&'a str>,
     /// Where relocatable sections begin, for the names in listings and objects: an even address up to octal 157776.
@@ -55,7 +48,7 @@ const DEFAULT_LAST: u32 = 16;
 ///
 /// Errors, in this order: `Help` or `Words`, if a word asks for help or the parser refuses the words, whichever it meets first;
 /// the value of the start, if it is bad; the first bad value of a breakpoint, for its address or else for its count; that of a word to
-/// watch; the first bad value of a memory range; the bottom. `NoMemory` at any point, if memory is refused.
+/// watch; the first bad value of a memory range; the bottom. A name isn't looked up yet. `NoMemory` at any point, if memory is refused.
 pub(crate) fn plan<'a, S: AsStr>(
     alloc: Global,
     words: &'a [S],
@@ -76,15 +69,8 @@ fn parsed_task<'a>(alloc: Global, entries: &ArgMatches<'a>) -> Result<TraceTask<
     ensures doable { IfOk result (λ task. IsDoable (Sim task.sim)) }
 {
     let sim = single_reading(entries, AddressOption::Start, "start", sim_task(entries))?;
-    let places = all_texts(alloc, entries, "place")?;
-    let mut breakpoints = Vec::new(alloc);
-    add_counted(&mut breakpoints, AddressOption::Place, places.as_slice())?;
-    let words = all_texts(alloc, entries, "watch")?;
-    let mut watched = Vec::new(alloc);
-    add_counted(&mut watched, AddressOption::Watch, words.as_slice())?;
-    let parts = all_texts(alloc, entries, "range")?;
-    let mut ranges = Vec::new(alloc);
-    add_ranges(&mut ranges, parts.as_slice())?;
+    let values = values_of(alloc, entries)?;
+    asked_of(alloc, None, &values)?;
     let names = all_texts(alloc, entries, "symbols")?;
     let bottom = single_reading(
         entries,
@@ -97,13 +83,20 @@ fn parsed_task<'a>(alloc: Global, entries: &ArgMatches<'a>) -> Result<TraceTask<
         from: first_shown(entries),
         last: last_shown(entries),
         lines: text_argument(entries, "output"),
-        stops: Stops {
-            breakpoints,
-            watched,
-        },
-        ranges,
+        values,
         names,
         bottom,
+    })
+}
+
+// The values of the breakpoints, the words to watch and the memory ranges. Fails if memory is refused.
+fn values_of<'a>(alloc: Global, entries: &ArgMatches<'a>) -> Result<Values<'a>, AllocError>
+    ensures { IfOk result (λ values. value_texts values ≡ values_of (rows_of (found_of entries.now))) }
+{
+    Ok(Values {
+        places: all_texts(alloc, entries, "place")?,
+        watched: all_texts(alloc, entries, "watch")?,
+        ranges: all_texts(alloc, entries, "range")?,
     })
 }
 
@@ -123,75 +116,4 @@ fn last_shown(entries: &ArgMatches<'_>) -> u16
     ensures { result ≡ last_shown (rows_of (found_of entries.now)) }
 {
     number_option(entries, "last", 1, MOST_LAST, DEFAULT_LAST) as u16
-}
-
-// Adds the addresses with counts that these texts of an option spell. Errors: the first text that spells none, or `NoMemory`.
-fn add_counted<'a>(
-    counted: &mut Vec<CountedAddress>,
-    option: AddressOption,
-    named: &[&'a str],
-) -> Result<(), Refusal<'a>>
-    ensures { AddsCounted option (texts named.now) counted.old.items counted.new.items result }
-{
-    match named {
-        [] => Ok(()),
-        [text, others @ ..] => {
-            counted.push(reading(option, *text, counted_of(*text))?)?;
-            add_counted(counted, option, others)
-        }
-    }
-}
-
-// Adds the memory ranges that these texts spell. Errors: the first text that spells none, or `NoMemory`.
-fn add_ranges<'a>(ranges: &mut Vec<Range>, named: &[&'a str]) -> Result<(), Refusal<'a>>
-    ensures { AddsRanges (texts named.now) ranges.old.items ranges.new.items result }
-{
-    match named {
-        [] => Ok(()),
-        [text, others @ ..] => {
-            ranges.push(reading(AddressOption::Range, *text, range_of(*text))?)?;
-            add_ranges(ranges, others)
-        }
-    }
-}
-
-// The parts of a text before and after its first colon; the whole text and None if it has no colon.
-fn parts_of(text: &str) -> (&str, Option<&str>)
-    ensures first { result.0.now ≡ before_first is_colon text.now }
-    ensures second { option_map (λ part. part.now) result.1 ≡ after_colon text.now }
-{
-    match text.split_once(':') {
-        Some((first, second)) => (first, Some(second)),
-        None => (text, None),
-    }
-}
-
-// The address with a count that a text OCTAL or OCTAL:COUNT spells; OCTAL alone has the count 1. Error: the fault of the address or count.
-fn counted_of(text: &str) -> Result<CountedAddress, UsageFault>
-    ensures { result ≡ counted_of text.now }
-{
-    let (first, second) = parts_of(text);
-    let address = address(first)?;
-    match second {
-        Some(times) => Ok(CountedAddress {
-            address,
-            count: count(times)?,
-        }),
-        None => Ok(CountedAddress { address, count: 1 }),
-    }
-}
-
-// The memory range that a text FIRST or FIRST:LAST spells; FIRST alone is one word. Error: the fault of an address.
-fn range_of(text: &str) -> Result<Range, UsageFault>
-    ensures { result ≡ range_of text.now }
-{
-    let (first, second) = parts_of(text);
-    let first = address(first)?;
-    match second {
-        Some(last) => Ok(Range {
-            first,
-            last: address(last)?,
-        }),
-        None => Ok(Range { first, last: first }),
-    }
 }
