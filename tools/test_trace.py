@@ -104,6 +104,8 @@ MAPS = {
     "LETTER.MAP": "GLOBALS\nmain   001000\nUNDEFINED\n",
     "LONG.MAP": "GLOBALS\nUNDEFINED\n" + "\n" * 16777198,
     "LONGER.MAP": "GLOBALS\nUNDEFINED\n" + "\n" * 16777199,
+    "STORE.MAP": "GLOBALS\nWORD   001100\nUNDEFINED\n",
+    "AGAIN.MAP": "GLOBALS\nWORD   000776\nUNDEFINED\n",
     "OTHER.MAP": "GLOBALS\nFIRST  001000\nINNER  001006\nUNDEFINED\n",
     "LOAD.MAP": "LIMIT 001000 001034\nSECTIONS\n  001000 000034        MAIN\nGLOBALS\n  000015 CR     MAIN\n  001000 MAIN   MAIN\n  001004 LOOP   MAIN\n"
                 "  001004 AGAIN  MAIN\n  001010 WAIT   MAIN\n",
@@ -137,7 +139,10 @@ MAPS = {
     "EMPTY.LST": "\nSYMBOL TABLE\n\n",
 }
 NAMES = {"001000": "MAIN", "001004": "LOOP", "001006": "LOOP+2", "001010": "WAIT", "001014": "WAIT+4", "001016": "WAIT+6", "001022": "WAIT+12", "001024": "WAIT+14"}
-NAMED = [re.sub("\t([0-7]{6})\t", lambda found: f"\t{found[1]} {NAMES[found[1]]}\t", line, count=1) for line in LINES]
+NAMED = [re.sub("\t([0-7]{6})\t", lambda found: f"\t{found[1]} {NAMES[found[1]]}\t", line, count=1)
+         .replace("BPL    1010", "BPL    WAIT").replace("BR     1004", "BR     LOOP") for line in LINES]
+# Where a section is known, the names of its labels stand in operands for the addresses after them too.
+PLACED = [line.replace("BEQ    1024", "BEQ    WAIT+14") for line in NAMED]
 
 # The words, the tape, and the status, the output and the lines. The words are a tuple where one has a blank or is empty.
 CHECKS = (
@@ -250,6 +255,27 @@ CHECKS = (
     ("an object", "-y HI.OBJ HI.TAP", TAPE, 0, "H\n", "".join(NAMED) + END),
     ("an object that is linked elsewhere", "-y HI.OBJ -b 774 -f 16 HI.TAP", TAPE, 0, "H\n", LINES[15].replace("\t001024\t", "\t001024 WAIT+20\t") + END),
     ("an object that is cut off", "-y HI.MAP -y SHORT.OBJ HI.TAP", TAPE, 4, "", "?M11 MAP 2 BadMap OF SHORT.OBJ\n"),
+    ("a place by its name", "-y HI.MAP -p WAIT HI.TAP", TAPE, 1, "", "".join(NAMED[:3]) + "REACHED AFTER 3 STEPS\n" + registers("000110", "001027", "001010", "000000")),
+    ("a place by a name and a distance, at its second time", "-y HI.MAP -f 7 -p MAIN+4:2 HI.TAP", TAPE, 1, "H", NAMED[6] + "REACHED AFTER 7 STEPS\n" + registers("000110", "001027", "001004", "000000")),
+    ("a word and a part by names", "-l 1 -y STORE.MAP -w WORD -r WORD+2:WORD+4 -r WORD HI.TAP", STORES, 1, "", "3\t001012\tMOV    #7,@#WORD\nCHANGED AFTER 3 STEPS\n"
+     + NONE.replace("SP 000000 PC 001000", "SP 001000 PC 001020") + "MEMORY 001102:001104\n  001102 000000 000000\nMEMORY 001100:001100\n  001100 000007\n"),
+    ("the first of two words of one name", "-l 1 -y STORE.MAP -y AGAIN.MAP -w WORD HI.TAP", STORES, 1, "", "3\t001012\tMOV    #7,@#WORD\nCHANGED AFTER 3 STEPS\n"
+     + NONE.replace("SP 000000 PC 001000", "SP 001000 PC 001020")),
+    ("a name that no file has", "-y HI.MAP -p NOBODY HI.TAP", TAPE, 2, "", "?M11 USAGE 3 BadOctal OF -p NOBODY\n"),
+    ("a name without files of names", "-w LOOP HI.TAP", TAPE, 2, "", "?M11 USAGE 3 BadOctal OF -w LOOP\n"),
+    ("a name in small letters", "-y HI.MAP -p loop HI.TAP", TAPE, 2, "", "?M11 USAGE 3 BadOctal OF -p loop\n"),
+    ("a beginning of a name", "-y HI.MAP -r MAI HI.TAP", TAPE, 2, "", "?M11 USAGE 3 BadOctal OF -r MAI\n"),
+    ("a name with more than it has", "-y HI.MAP -r MAINS HI.TAP", TAPE, 2, "", "?M11 USAGE 3 BadOctal OF -r MAINS\n"),
+    ("an odd distance from a name", "-y HI.MAP -p MAIN+1 HI.TAP", TAPE, 2, "", "?M11 USAGE 4 OddAddress OF -p MAIN+1\n"),
+    ("a name of an odd number", "-y HI.MAP -w CR HI.TAP", TAPE, 2, "", "?M11 USAGE 4 OddAddress OF -w CR\n"),
+    ("a distance past the memory", "-y HI.MAP -r MAIN:MAIN+157000 HI.TAP", TAPE, 2, "", "?M11 USAGE 5 BadAddress OF -r MAIN:MAIN+157000\n"),
+    ("a distance of other digits, before a map that isn't there", "-y NO.MAP -p MAIN+8 HI.TAP", TAPE, 2, "", "?M11 USAGE 3 BadOctal OF -p MAIN+8\n"),
+    ("a name without its distance", "-y HI.MAP -p MAIN+ HI.TAP", TAPE, 2, "", "?M11 USAGE 3 BadOctal OF -p MAIN+\n"),
+    ("a name at no time, before a map that isn't there", "-y NO.MAP -p MAIN:0 HI.TAP", TAPE, 2, "", "?M11 USAGE 6 BadCount OF -p MAIN:0\n"),
+    ("a bad part before a name that no file has", "-y HI.MAP -p NOBODY -r 9 HI.TAP", TAPE, 2, "", "?M11 USAGE 3 BadOctal OF -r 9\n"),
+    ("two names that no file has", "-y HI.MAP -w NONE -p NOBODY HI.TAP", TAPE, 2, "", "?M11 USAGE 3 BadOctal OF -p NOBODY\n"),
+    ("a name that no file has, after a map that isn't there", "-y NO.MAP -p NOBODY HI.TAP", TAPE, 3, "", "?M11 OPEN NO.MAP\n"),
+    ("a name that no file has, before a tape that isn't there", "-y HI.MAP -p NOBODY NONE.TAP", TAPE, 2, "", "?M11 USAGE 3 BadOctal OF -p NOBODY\n"),
     ("two maps", "-y PAST.MAP -y HI.MAP HI.TAP", TAPE, 0, "H\n", "".join(NAMED).replace(" WAIT+14", " DONE") + END),
     ("two names of one address", "-y OTHER.MAP -y HI.MAP -n 1 HI.TAP", TAPE, 1, "", LINES[0].replace("\t001000\t", "\t001000 FIRST\t") + "LIMIT AFTER 1 STEPS\n" + registers("000000", "001026", "001004", "000000")),
     ("the same two in another order", "-y HI.MAP -y OTHER.MAP -n 1 HI.TAP", TAPE, 1, "", LINES[0].replace("\t001000\t", "\t001000 MAIN\t") + "LIMIT AFTER 1 STEPS\n" + registers("000000", "001026", "001004", "000000")),
