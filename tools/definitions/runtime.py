@@ -39,7 +39,7 @@ class Store:
 
 
 class Fixed(Store):
-    """A store whose lists don't grow in place, since a memory of calls or an array of versions has it."""
+    """A store whose lists don't grow in place, since it is kept from one command to the next, or is an array of versions."""
     __slots__ = ()
 
 
@@ -312,7 +312,17 @@ class Growth:
     __slots__ = ("states", "ends", "output")
 
     def __init__(self, state):
-        self.states, self.ends, self.output = [state], [0], Fixed([])
+        self.states, self.ends, self.output = [state], [0], Store([])
+
+    def add(self, state, output):
+        """Adds the state after a further item, and what that item yields. A list that grew from the output may have put the same items behind it, and
+        then shares them; if it has put others there, the output goes on in a store of its own."""
+        self.states.append(state)
+        if output is not None and output[1] != output[2]:
+            before = List((self.output, 0, self.ends[-1]))
+            if grown_behind(before, output) is None:
+                self.output = Store(items(before) + items(output))
+        self.ends.append(self.ends[-1] + (0 if output is None else length(output)))
 
 
 def growth_of(key, state, step, some):
@@ -325,10 +335,7 @@ def growth_of(key, state, step, some):
         done = len(states) - 1
         after, output = step(states[done], at(some, done))
         if len(states) == done + 1:
-            if output is not None:
-                growth.output.back.extend(items(output))
-            growth.ends.append(len(growth.output.back))
-            states.append(after)
+            growth.add(after, output)
     return growth
 
 

@@ -40,6 +40,42 @@ def check_lists():
     return [f"a list is not {own[:9]}.." for own in wrong[:3]]
 
 
+def gone_over(start, own):
+    """What `step` yields for a list of Python's own: the outputs and the last state; and whether all of them are odd."""
+    state, outputs, all_odd = start, [], True
+    for item in own:
+        all_odd = all_odd and (state[0] + item) % 2 == 1
+        outputs += [state[0], item][:item % 3]
+        state = (2 * state[0] + item,)
+    return outputs, state, all_odd
+
+
+def step(state, item):
+    return (2 * state[0] + item,), runtime.of_items([state[0], item][:item % 3])
+
+
+def odd_step(state, item):
+    return (2 * state[0] + item,), (state[0] + item) % 2 == 1
+
+
+def check_growths():
+    """What is kept for the beginnings of lists, which share their items with others, and whose outputs are lists that others grow from."""
+    rng, wrong = random.Random(2), []
+    pool = [(runtime.NIL, []), (runtime.of_items([1, 3, 2, 4]), [1, 3, 2, 4])]
+    for _ in range(3000):
+        some, own = changed_list(rng, rng.choice(pool), rng.choice(pool))
+        start = (rng.randrange(2),)
+        outputs, state, all_odd = gone_over(start, own)
+        found, after = runtime.collected("tried", start, step, some)
+        wrong += [] if (runtime.items(found), after) == (outputs, state) else [f"{own[:9]}.. yields {runtime.items(found)[:9]}.., and not {outputs[:9]}.."]
+        wrong += [] if runtime.folded("last", start, step, some) == state else [f"the state after {own[:9]}.. isn't {state}"]
+        wrong += [] if runtime.all_hold("odd", start, odd_step, some) == all_odd else [f"whether all of {own[:9]}.. are odd isn't {all_odd}"]
+        if len(own) < 200:
+            pool += [(some, own), (found, outputs)]
+    runtime.forget()
+    return wrong[:3] + [f"a list is not {own[:9]}.." for some, own in pool if runtime.items(some) != own][:3]
+
+
 # A definition of the library, its arguments and its value, at its edges.
 EDGES = (
     ("◌-◌", (3, 5), 0), ("◌-◌", (5, 3), 2), ("◌/◌", (7, 0), 0), ("◌/◌", (7, 2), 3), ("◌%◌", (7, 0), 7), ("◌%◌", (7, 2), 1), ("◌^◌", (0, 0), 1),
@@ -209,5 +245,5 @@ def check_answers():
     return wrong
 
 
-CHECKS = [("definitions-lists", check_lists, ()), ("definitions-library", check_library, ()), ("definitions-strictness", check_strictness, ()),
-          ("definitions-tape", check_tape, ()), ("definitions-answers", check_answers, ())]
+CHECKS = [("definitions-lists", check_lists, ()), ("definitions-growths", check_growths, ()), ("definitions-library", check_library, ()),
+          ("definitions-strictness", check_strictness, ()), ("definitions-tape", check_tape, ()), ("definitions-answers", check_answers, ())]
