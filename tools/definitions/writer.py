@@ -1,7 +1,8 @@
 """Writes definitions as Python: each as a function of the arguments of its clauses, which are tried in their order.
 
 Types are None. A λ, and a `let` or `elim` inside a term, is a function of its own, whose first arguments are the variables that it uses, so that equal
-ones are equal values. Definitions of two forms that go over a list keep what they found for its beginning (`Growth` in runtime.py)."""
+ones are equal values. Definitions of three forms that go over a list keep what they found for its beginning (`Growth` in runtime.py), and those that
+look only at a list's beginning are called with no more than that."""
 import functools
 import keyword
 
@@ -132,7 +133,17 @@ class DefinitionWriter:
         arguments = [f"a{place}" for place in range(count)]
         body = self.body([([*zip(arguments, clause.patterns)], clause.term) for clause in self.declaration.clauses], {})
         head = ["@constant"] if count == 0 else ["@remembered"] if self.program.remembers or self.is_of_numbers() else []
+        cut = BeginningWriter(self).places() if count and self.program.remembers and not isinstance(self, FactWriter) else None
+        if cut:
+            return self.inner + self.cut_lines(arguments, body, *cut)
         return self.inner + head + [f"def {self.name}({', '.join(arguments)}):"] + indented(body)
+
+    def cut_lines(self, arguments, body, count, place):
+        """The functions of a definition that looks at no more of a list than it counts: the list is cut before the call is remembered."""
+        inner, given = f"{self.name}__in_beginning", list(arguments)
+        given[place] = f"take({arguments[count]}, {arguments[place]})"
+        return (["@remembered", f"def {inner}({', '.join(arguments)}):"] + indented(body)
+                + [f"def {self.name}({', '.join(arguments)}):", f"    return {inner}({', '.join(given)})"])
 
     def is_of_numbers(self):
         """Whether all arguments are numbers: then calls are few enough to be remembered in a long run, too."""
@@ -203,6 +214,10 @@ class DefinitionWriter:
             return None
         found = {one for one in found if one.kind == "constructor" or one.kind == "library" and one.name in TAG}
         return self.project.one_of(found, f"{self.file.path}: a pattern") if found else None
+
+    def is_of_library(self, name):
+        """Whether a name means what the library defines, and nothing else."""
+        return {meaning.kind for meaning in self.project.meanings(self.file, name)} == {"library"}
 
     # ---- statements
 
@@ -494,7 +509,7 @@ class GrowthWriter:
             return None
         first, second = (clause.patterns for clause in self.clauses)
         places = [place for place, pattern in enumerate(first) if pattern == ("name", "[]")]
-        if len(places) != 1 or len(first) < 2 or not all(map(self.is_of_library, ("[]", "◌∷◌"))):
+        if len(places) != 1 or len(first) < 2 or not all(map(self.writer.is_of_library, ("[]", "◌∷◌"))):
             return None
         place, (head, parts) = places[0], flattened(second[places[0]])
         others = [pattern for number, pattern in enumerate([*first, *second]) if number % len(first) != place]
@@ -512,16 +527,13 @@ class GrowthWriter:
             way, output = "collected", parts[0] if head[1] == "◌++◌" else ("apply", ("name", "◌∷◌"), [parts[0], ("name", "[]")])
         elif head == ("name", "◌&&◌") and base == ("name", "true"):
             way, output = "all_hold", parts[0]
-        if output is not None and not self.is_of_library(head[1]):
+        if output is not None and not self.writer.is_of_library(head[1]):
             return None
         head, parts = flattened(parts[1] if output is not None else term)
         if head != self.own or len(parts) != len(patterns) or parts[place] != ("name", rest):
             return None
         others = parts[:place] + parts[place + 1:]
         return None if rest in names_in([others, output]) or rest in self.variables(patterns, place) else (way, output, others)
-
-    def is_of_library(self, name):
-        return {meaning.kind for meaning in self.writer.project.meanings(self.writer.file, name)} == {"library"}
 
     @staticmethod
     def variables(patterns, place):
@@ -555,6 +567,60 @@ class GrowthWriter:
         after = "".join(f"{writer.value(other, scope)}, " for other in others)
         text = writer.value(output, scope) if output is not None else "None"
         return [f"def {step}(state, item):"] + indented(bound + [f"return ({after}), {text}"])
+
+
+class BeginningWriter:
+    """Finds a definition that counts down, and looks at no more of a list than it counts:
+
+        f zero xs = ..      f (suc n) xs = ..       (xs isn't after the first `=`; after the second it is only in `take (suc n) xs`, `take n xs`, `f n xs`)
+
+    By induction `f n xs` is `f n (take n xs)`. So a call for a list with further items behind comes to a call that was made before."""
+
+    def __init__(self, writer):
+        self.writer, self.clauses, self.own = writer, writer.declaration.clauses, ("name", writer.meaning.name)
+
+    def places(self):
+        """The places of the number and of the list among the arguments, or None."""
+        if len(self.clauses) != 2 or not self.writer.is_of_library("take") or {"take", self.own[1]} & names_in([clause.patterns for clause in self.clauses]):
+            return None
+        pairs = list(zip(*(clause.patterns for clause in self.clauses)))
+        counts = [place for place, (first, second) in enumerate(pairs) if first == ("name", "zero") and self.counted(second) is not None]
+        lists = [place for place, pair in enumerate(pairs) if all(self.is_variable(pattern) for pattern in pair)]
+        return next(((count, place) for count in counts for place in lists if self.looks_at_beginnings(count, place)), None)
+
+    def is_variable(self, pattern):
+        return pattern[0] == "name" and self.writer.constructor(pattern) is None
+
+    def counted(self, pattern):
+        """The variable `n` of a pattern `suc n`, or None."""
+        head, parts = flattened(pattern)
+        is_suc = head == ("name", "suc") and len(parts) == 1 and all(map(self.writer.is_of_library, ("zero", "suc")))
+        return parts[0] if is_suc and self.is_variable(parts[0]) else None
+
+    def looks_at_beginnings(self, count, place):
+        """Whether the clauses look at no more of the list at one place than the number at another place says."""
+        first, second = self.clauses
+        some, less = second.patterns[place], self.counted(second.patterns[count])
+        if first.patterns[place][1] in names_in(first.term) or ("name", "_") in (some, less):
+            return False
+        return self.is_in_beginnings(second.term, some, (less, second.patterns[count]), (count, place))
+
+    def is_in_beginnings(self, term, some, counts, places):
+        """Whether the list is in a term only where no more of it is looked at than this. Where a term has variables of its own, the list may not be."""
+        if not isinstance(term, (tuple, list)) or some[1] not in names_in(term):
+            return True
+        if not term or term == some or term[0] in ("lambda", "let", "elim", "do"):
+            return False
+        parts = term
+        if term[0] == "apply":
+            head, parts = flattened(term)
+            if head == ("name", "take") and len(parts) == 2 and parts[1] == some:
+                return parts[0] in counts
+            if head == self.own and len(parts) == len(self.clauses[1].patterns) and parts[places[1]] == some and parts[places[0]] == counts[0]:
+                parts = parts[:places[1]] + parts[places[1] + 1:]
+            else:
+                parts = [head, *parts]
+        return all(self.is_in_beginnings(part, some, counts, places) for part in parts)
 
 
 def field_name(name):

@@ -166,7 +166,9 @@ def check_library():
 
 
 # Definitions that are refused, each with a part of the sentence. They follow a head that has the library's names.
-HEAD = "use Rattle.std.specs.Prelude.{ℕ, ◌+◌, ◌≡◌, ◌<◌, List, [], ◌∷◌, length}\nuse Rattle.m11_other.specs.Other.{five}\n"
+HEAD = """use Rattle.std.specs.Prelude.{ℕ, ◌+◌, ◌==◌, ◌≡◌, ◌<◌, if◌then◌else◌, zero, suc, List, [], ◌∷◌, length, take, drop, sum}
+use Rattle.m11_other.specs.Other.{five}
+"""
 REFUSED = (
     ("value : ℕ\nvalue = length {A = ℕ} (1 ∷ [])\n", "an implicit argument stands in a term"), ("value : ℕ\nvalue = nowhere\n", "isn't the name of anything"),
     ("five : ℕ\nfive = 6\n\nvalue : ℕ\nvalue = five\n", "is the name of 2 things"),
@@ -188,6 +190,24 @@ ACCEPTED = (
 )
 
 
+# Clauses of `f : ℕ → List ℕ → ℕ`, and the values of `f 1`, `f 2` and `f 3` for the list 1, 2, 4. Those of the first alone look at no more of the list than
+# the number says.
+COUNTED = (
+    ("f zero xs = 0\nf (suc n) xs = sum (take (suc n) xs) + sum (take n xs) + f n xs", "[1, 5, 0o17]"),
+    ("f zero xs = length xs\nf (suc n) xs = f n xs", "[3, 3, 3]"),
+    ("f zero xs = sum xs\nf (suc n) xs = f n (drop 1 xs)", "[6, 4, 0]"),
+    ("f zero xs = 0\nf (suc n) xs = sum (take (n + 2) xs) + f n xs", "[3, 0o12, 0o21]"),
+    ("f zero xs = 0\nf (suc n) xs = sum (drop n xs) + f n xs", "[7, 0o15, 0o21]"),
+    ("f zero xs = 0\nf (suc n) xs = (λ n. sum (take n xs)) 5 + f n xs", "[7, 0o16, 0o25]"),
+    ("f zero xs = 0\nf (suc n) xs = let n = 2 in sum (take n xs)", "[3, 3, 3]"),
+    ("f zero xs = 0\nf (suc n) xs = elim xs [ [] ↦ 0 | y ∷ ys ↦ sum ys ]", "[6, 6, 6]"),
+    ("f zero xs = 0\nf (suc n) (x ∷ xs) = sum xs", "[6, 6, 6]"),
+    ("f zero xs = 0\nf (suc n) xs = if n == 0 then f 6 xs else sum (take n xs)", "[7, 1, 3]"),
+    ("f zero xs = 0\nf (suc n) xs = g n xs\n\ng : ℕ → List ℕ → ℕ\ng n xs = sum xs", "[7, 7, 7]"),
+    ("f n xs = g n xs []\n\ng : ℕ → List ℕ → List ℕ → ℕ\ng zero xs ys = sum ys\ng (suc n) xs ys = g n xs xs", "[7, 7, 7]"),
+)
+
+
 def value_in(text):
     """What `value` of a definition file is, or the sentence on it."""
     with tempfile.TemporaryDirectory() as folder:
@@ -204,7 +224,12 @@ def value_in(text):
 def check_strictness():
     """What the language has and the tool doesn't know is refused with a sentence; what it knows is computed."""
     wrong = [f"{text!r}: {value_in(text)}, and not {part}" for text, part in REFUSED if part not in value_in(text)]
-    return wrong + [f"{text!r}: {value_in(text)}, and not {value}" for text, value in ACCEPTED if value_in(text) != value]
+    wrong += [f"{text!r}: {value_in(text)}, and not {value}" for text, value in ACCEPTED if value_in(text) != value]
+    ones = "f 1 some ∷ f 2 some ∷ f 3 some ∷ []"
+    for clauses, value in COUNTED:
+        text = f"f : ℕ → List ℕ → ℕ\n{clauses}\n\nvalue : List ℕ\nvalue = let some = 1 ∷ 2 ∷ 4 ∷ [] in {ones}\n"
+        wrong += [f"{clauses!r}: {value_in(text)}, and not {value}"] if value_in(text) != value else []
+    return wrong
 
 
 # Words of `run`, the status, and a part of what it prints.
