@@ -240,12 +240,11 @@ OBJECTS = {"PRIMES": "asm/primes/PRIMES", "UPPER": "asm/upper/UPPER", "GUESS": "
            "MAIN": "modules/DEFS modules/MAIN", "SORT": "modules/DEFS modules/SORT", "OUTPUT": "modules/DEFS modules/OUTPUT",
            "RTCALL": "rt11/RT11 rt11/RTCALL", "REVERS": "rt11/RT11 rt11/REVERS", "COPY": "rt11/RT11 rt11/COPY", "NAMES": "rt11/RT11 rt11/NAMES",
            "CLOCK": "rt11/RT11 rt11/CLOCK", "MEMORY": "rt11/RT11 rt11/MEMORY", "NTYPE": "rt11/NTYPE", "BEGIN": "monitor/BEGIN",
-           "GREET": "monitor/EMTS monitor/GREET", "LIFE": "monitor/EMTS monitor/LIFE", "LOWER": "monitor/EMTS monitor/LOWER"}
-# Sources of examples for which the definitions take too long.
-TOO_LONG = frozenset(["monitor/MONITOR"])
+           "GREET": "monitor/EMTS monitor/GREET", "LIFE": "monitor/EMTS monitor/LIFE", "LOWER": "monitor/EMTS monitor/LOWER",
+           "MONITOR": "monitor/MONITOR"}
 TAPES = {"PRIMES": "PRIMES", "UPPER": "UPPER", "GUESS": "GUESS CONSOL", "P": "P", "COUNT": "COUNT", "LOADER": "LOADER", "BOOT": "BOOT",
          "SORTED": "MAIN SORT OUTPUT", "REVERS": "REVERS", "COPY": "COPY", "NAMES": "NAMES RTCALL", "CLOCK": "CLOCK RTCALL", "MEMORY": "MEMORY RTCALL",
-         "HI": "link/MAIN link/TEXT"}
+         "HI": "link/MAIN link/TEXT", "GREET": "GREET MONITOR", "LIFE": "LIFE MONITOR", "LOWER": "LOWER MONITOR"}
 STEPS = "5000"
 
 
@@ -255,8 +254,8 @@ def example(path):
 
 
 def unlisted():
-    """Sources of examples that are neither compared nor too long."""
-    listed = TOO_LONG.union(*(sources.split() for sources in OBJECTS.values()))
+    """Sources of examples that aren't compared."""
+    listed = set().union(*(sources.split() for sources in OBJECTS.values()))
     top = os.path.join(TOP, "examples")
     found = [os.path.relpath(os.path.join(folder, name), top)[:-4] for folder, _, names in os.walk(top) for name in names if name.endswith(".MAC")]
     return sorted(set(found) - listed)
