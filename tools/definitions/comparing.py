@@ -21,7 +21,7 @@ LIMIT = 30
 # Cases at limits, which the definitions don't reach in the seconds that they have here.
 SLOW = frozenset("""a-repeat-of-no-lines-takes-no-lines a-symbol-is-created-where-no-actual-is-given local-symbols-of-all-blocks-are-counted
     a-label-too-many-is-reported-before-a-call-too-deep there-may-be-16384-local-symbols there-may-be-4096-names there-may-be-65535-lines
-    nearly-200000-lines-are-taken lines-past-200000-are-too-many there-are-at-most-256-sections""".split())
+    nearly-200000-lines-are-taken lines-past-200000-are-too-many""".split())
 
 
 def module_at(path, name):

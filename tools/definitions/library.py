@@ -4,7 +4,8 @@ A row has the modules that pass the name on, the name, the number of arguments, 
 tests each at its edges; where a kit is installed, it also compares them with the library's own definitions."""
 import functools
 
-from runtime import NIL, Fixed, Function, List, Value, append, at, collected, cons, drop, folded, get_or, items, length, of_items, set_at, single, take
+from runtime import (NIL, Fixed, Function, List, Value, append, at, collected, cons, drop, first_place, folded, get_or, items, length, of_items, set_at,
+                     single, take)
 
 NONE = Value("None")
 LESS, EQUAL, GREATER = Value("Less"), Value("Equal"), Value("Greater")
@@ -126,18 +127,19 @@ def sum_by(function, many):
 
 
 def prefix_length(test, many):
-    for place, one in enumerate(items(many)):
-        if not test(one):
-            return place
-    return length(many)
+    """How many items pass before the first that doesn't."""
+    return place_where(test, False, many)
 
 
 def place_of(test, many):
     """The place of the first item that passes; the length if none does."""
-    for place, one in enumerate(items(many)):
-        if test(one):
-            return place
-    return length(many)
+    return place_where(test, True, many)
+
+
+def place_where(test, wanted, many):
+    if not is_of_numbers(many):
+        return first_place(test, wanted, many)
+    return next((place for place, one in enumerate(items(many)) if test(one) == wanted), length(many))
 
 
 def position(test, many):
@@ -240,7 +242,8 @@ ROWS = (
     ("Prelude List", "filter_map", 2, filter_map), ("Prelude List", "flat_map", 2, flat_map), ("Prelude List", "find", 2, find), ("Prelude", "fold", 3, fold),
     ("Prelude", "sum_by", 2, sum_by), ("Prelude", "sum", 1, lambda many: sum(items(many))), ("Prelude", "count_by", 2, sum_by),
     ("Prelude", "position", 2, position), ("List", "position_or_len", 2, place_of), ("List", "prefix_len", 2, prefix_length),
-    ("List", "list_any", 2, lambda test, many: any(map(test, items(many)))), ("List", "list_all", 2, lambda test, many: all(map(test, items(many)))),
+    ("List", "list_any", 2, lambda test, many: place_of(test, many) < length(many)),
+    ("List", "list_all", 2, lambda test, many: prefix_length(test, many) == length(many)),
     ("List", "cons_option", 2, lambda option, many: cons(option.parts[0], many) if option.parts else many),
     ("List", "enumerate_from", 2, lambda first, many: of_items(list(enumerate(items(many), first)))),
     ("List", "concat", 1, lambda many: flat_map(SAME, many)), ("List", "join_with_byte", 2, joined),

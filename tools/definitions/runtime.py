@@ -284,6 +284,7 @@ class Function:
 
 FORGET = []
 GROWN = {}
+LOOKED = {}
 
 
 def remembered(function):
@@ -303,6 +304,7 @@ def forget():
     for clear in FORGET:
         clear()
     GROWN.clear()
+    LOOKED.clear()
     SINGLE.clear()
 
 
@@ -367,6 +369,19 @@ def all_hold(name, state, step, some):
         if len(states) == done + 1:
             states.append(after if holds else None)
     return len(states) > count and states[count] is not None
+
+
+def first_place(test, wanted, some):
+    """The place of the first item of a list for which a test has the wanted value, or the length if there is none. How many items were looked at is kept,
+    so that for a list with further items behind only these are tested; and where the first is, once it is known."""
+    key = (test, wanted, some[0], some[1])
+    looked, is_there = LOOKED.get(key, (0, False))
+    count = some[2] - some[1]
+    while looked < count and not is_there:
+        is_there = test(at(some, looked)) == wanted
+        looked += not is_there
+    LOOKED[key] = looked, is_there
+    return min(looked, count)
 
 
 # ---- large stacks

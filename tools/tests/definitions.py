@@ -58,6 +58,18 @@ def odd_step(state, item):
     return (2 * state[0] + item,), (state[0] + item) % 2 == 1
 
 
+def has_rest(rest, item):
+    return item % 3 == rest
+
+
+def wrong_place(rng, some, own):
+    """A sentence if the first item of a list that passes a test, or that doesn't, isn't found where it is."""
+    rest, wanted = rng.randrange(3), rng.random() < 0.5
+    place = next((place for place, item in enumerate(own) if has_rest(rest, item) == wanted), len(own))
+    found = runtime.first_place(runtime.Function(has_rest, 1, (rest,)), wanted, some)
+    return [] if found == place else [f"in {own[:9]}.. the first is found at {found}, and not at {place}"]
+
+
 def check_growths():
     """What is kept for the beginnings of lists, which share their items with others, and whose outputs are lists that others grow from."""
     rng, wrong = random.Random(2), []
@@ -70,6 +82,7 @@ def check_growths():
         wrong += [] if (runtime.items(found), after) == (outputs, state) else [f"{own[:9]}.. yields {runtime.items(found)[:9]}.., and not {outputs[:9]}.."]
         wrong += [] if runtime.folded("last", start, step, some) == state else [f"the state after {own[:9]}.. isn't {state}"]
         wrong += [] if runtime.all_hold("odd", start, odd_step, some) == all_odd else [f"whether all of {own[:9]}.. are odd isn't {all_odd}"]
+        wrong += wrong_place(rng, some, own)
         if len(own) < 200:
             pool += [(some, own), (found, outputs)]
     runtime.forget()
