@@ -52,7 +52,7 @@ class List(tuple):
 
 
 NIL = List((Fixed([]), 0, 0))
-SINGLE = {}
+SINGLE, COPIED = {}, {}
 
 
 def of_items(values):
@@ -150,7 +150,17 @@ def append(first, more):
         found = grown_behind(first, more)
     else:
         found = grown_before(first, more) or (grown_behind(first, more) if first[2] == len(first[0].back) else None)
-    return found or of_items(items(first) + items(more))
+    return found or copied(first, more)
+
+
+def copied(first, more):
+    """`first ++ more` in a store of its own. Equal calls for records share it, as in `single`."""
+    if head(more).__class__ is not Record and head(more).__class__ is not Value:
+        return of_items(items(first) + items(more))
+    found = COPIED.get((first, more))
+    if found is None:
+        found = COPIED[(first, more)] = of_items(items(first) + items(more))
+    return found
 
 
 def take(count, some):
@@ -306,6 +316,7 @@ def forget():
     GROWN.clear()
     LOOKED.clear()
     SINGLE.clear()
+    COPIED.clear()
 
 
 class Growth:

@@ -16,11 +16,11 @@ from names import Project  # noqa: E402
 from reader import Fault  # noqa: E402
 
 
-def changed_list(rng, first, second):
-    """A list and Python's own list, changed in the same way."""
+def changed_list(rng, first, second, new=range(6)):
+    """A list and Python's own list, changed in the same way; `new` are the items that are added."""
     (one, own), (other, its_own), number = first, second, rng.randrange(6)
-    ways = [lambda: (runtime.cons(number, one), [number, *own]), lambda: (runtime.append(one, other), own + its_own),
-            lambda: (runtime.append(one, runtime.single(number)), [*own, number]), lambda: (runtime.take(number, one), own[:number]),
+    ways = [lambda: (runtime.cons(new[number], one), [new[number], *own]), lambda: (runtime.append(one, other), own + its_own),
+            lambda: (runtime.append(one, runtime.single(new[number])), [*own, new[number]]), lambda: (runtime.take(number, one), own[:number]),
             lambda: (runtime.drop(number, one), own[number:]),
             lambda: (runtime.set_at(one, number, 9), [9 if place == number else item for place, item in enumerate(own)]),
             lambda: (runtime.tail(one), own[1:]) if own else first]
@@ -28,11 +28,19 @@ def changed_list(rng, first, second):
 
 
 def check_lists():
-    """Random changes of lists, short and long, that share their items; each older list stays as it was."""
+    """Random changes of lists, short and long, that share their items; each older list stays as it was. Lists of records share more."""
+    records = [runtime.Record({"number": number}) for number in range(600)]
+    wrong = wrong_lists(list(range(600)), range(6)) + wrong_lists(records, records[:6])
+    runtime.forget()
+    return wrong
+
+
+def wrong_lists(long, new):
+    """Sentences on lists that aren't what they should be, after random changes of an empty list and a long one."""
     rng = random.Random(1)
-    pool = [(runtime.NIL, []), (runtime.of_items(list(range(600))), list(range(600)))]
+    pool = [(runtime.NIL, []), (runtime.of_items(list(long)), list(long))]
     for _ in range(4000):
-        found = changed_list(rng, rng.choice(pool), rng.choice(pool))
+        found = changed_list(rng, rng.choice(pool), rng.choice(pool), new)
         if len(found[1]) < 2000:
             pool.append(found)
     wrong = [own for some, own in pool if runtime.items(some) != own or runtime.length(some) != len(own)]
