@@ -207,7 +207,7 @@ def made_by(program, folder, words, given=b""):
     return done, files
 
 
-def compared_call(machinery, program, words, files, given=b"", seconds=60):
+def compared_call(machinery, program, words, files, given=b"", seconds=300):
     """What differs between a command of the program and the definitions, and the files that it writes."""
     with tempfile.TemporaryDirectory() as folder:
         for name, content in files.items():
