@@ -1,0 +1,10 @@
+use Rattle.m11_asm_dump_laws.proofs.DumpedLines.{line_assembled}
+use Rattle.m11_asm_dump_laws.proofs.ReadData.{byte_assembled}
+use Rattle.m11_asm_dump_laws.proofs.lines.a_line_is_assembled_as_its_words.Goals as goal
+
+pub returns-clause-words : goal.returns-clause-words
+returns-clause-words c symbols table given word more reads even within fits all this =
+    line_assembled symbols table reads even within given word more fits all this
+
+pub returns-clause-byte : goal.returns-clause-byte
+returns-clause-byte c symbols table given byte reads within small this = byte_assembled symbols table reads within given byte small this

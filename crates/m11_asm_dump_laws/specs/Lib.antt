@@ -1,0 +1,3 @@
+pub mod Operands
+pub mod Knowledge
+pub mod Lines

@@ -1,0 +1,23 @@
+-- Lines that an assembly turns into contents at the current location. (MACRO-11 Language Reference Manual, "Source program format".)
+use Rattle.std.specs.Prelude.{◌≡◌, false, List}
+use Rattle.m11_base.specs.Devices.{Bytes}
+use Rattle.m11_obj.specs.declared.pieces.PieceContent.{PieceContent}
+use Rattle.m11_unfold_rules.specs.Unfolding.{UnfoldedLine}
+use Rattle.m11_asm_rules.specs.Changes.{with_move}
+use Rattle.m11_asm_rules.specs.Contents.{contents_size, pieces_from}
+use Rattle.m11_asm_rules.specs.Lines.{after_line, flags, pieces}
+use Rattle.m11_asm_rules.specs.Locations.{Steps}
+use Rattle.m11_asm_rules.specs.Meanings.{Map}
+use Rattle.m11_asm_rules.specs.Tables.{Table, location, section_name}
+
+-- a line with this text, all of which was stored, and which isn't a macro call or an operator that unfolding has handled
+pub record IsLine (given : UnfoldedLine) (written : Bytes) : Type 0 where
+  pub text : given.live.line.text ≡ written
+  pub whole : given.live.line.is_over_long ≡ false
+  pub own : given.is_own ≡ false
+
+-- a line emits these contents at the current location, has no flag but those of unfolding, and moves the counter on by their size
+pub record Assembles (map : Map) (table : Table) (given : UnfoldedLine) (contents : List PieceContent) : Type 0 where
+  pub pieces : pieces map table given ≡ pieces_from (section_name table) (location table) contents
+  pub flags : flags map table given ≡ given.remarks.flags
+  pub after : after_line map table given ≡ with_move (Steps (contents_size contents)) table
