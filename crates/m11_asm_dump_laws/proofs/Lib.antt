@@ -5,6 +5,8 @@ pub mod Quantities
 pub mod ArgumentTexts
 pub mod ReadStatements
 pub mod RowNames
+pub mod Widths
+pub mod Beginnings
 pub mod OperandTexts
 pub mod ReadOperands
 pub mod Forms

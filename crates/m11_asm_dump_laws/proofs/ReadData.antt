@@ -36,6 +36,7 @@ use Rattle.m11_asm_dump_laws.proofs.OperandTexts.{digits_kept, operands_open, sp
 use Rattle.m11_asm_dump_laws.proofs.ReadLines.{does_by, even_flags, even_gap, even_place}
 use Rattle.m11_asm_dump_laws.proofs.ReadStatements.{Opens, body_named, labels_none}
 use Rattle.m11_asm_dump_laws.proofs.Terms.{EndTerm, end_read, expression_read}
+use Rattle.m11_asm_dump_laws.proofs.Widths.{byte_width, whole_line, word_width}
 use Rattle.m11_asm_dump_laws.proofs.Tokens.{between, no_token, none_stops, past}
 use Rattle.m11_asm_dump_laws.proofs.Quantities.{number_value}
 
@@ -113,7 +114,8 @@ module _ (map_ : Map) (table : Table) (reads : ReadsAsMeant table) (within : loc
 
   pub word_assembled : (number : ℕ) → number < 65536 → here % 2 ≡ 0 → IsLine given (statement_text (statements.DataWord number))
       → Assembles map_ table given (map fixed_word (number ∷ []))
-  word_assembled number below even this =
+  word_assembled number below even line_ =
+      let this = whole_line given (statement_text (statements.DataWord number)) (word_width number) line_ in
       let name : Bytes = codes ".WORD" in
       let one : Expression = number_written number in
       let rest : Bytes = spaced gap (number_text number) in
@@ -131,7 +133,8 @@ module _ (map_ : Map) (table : Table) (reads : ReadsAsMeant table) (within : loc
 
   pub byte_assembled : (number : ℕ) → number < 256 → IsLine given (statement_text (statements.DataByte number))
       → Assembles map_ table given (fixed_byte number ∷ [])
-  byte_assembled number small this =
+  byte_assembled number small line_ =
+      let this = whole_line given (statement_text (statements.DataByte number)) (byte_width number) line_ in
       let name : Bytes = codes ".BYTE" in
       let one : Expression = number_written number in
       let rest : Bytes = spaced gap (number_text number) in

@@ -1,8 +1,8 @@
 -- A line of a disassembly is assembled as it means.
-use Rattle.std.proofs.Common.{◌≡◌, ◌∙◌, ℕ, ◌+◌, ◌*◌, ◌%◌, ◌<◌, Bool, true, false, not, List, [], ◌∷◌, ◌++◌, length, map, drop, Option, Some, None, refl, sym, ap, ap₂, subst, arith, append-nil, append_assoc}
-use Rattle.std.specs.Prelude.{◌==◌}
+use Rattle.std.proofs.Common.{◌≡◌, ◌∙◌, ℕ, ◌+◌, ◌*◌, ◌%◌, ◌≤◌, ◌<◌, Bool, true, false, not, List, [], ◌∷◌, ◌++◌, length, map, drop, Option, Some, None, refl, sym, ap, ap₂, subst, arith, append-nil, append_assoc}
+use Rattle.std.specs.Prelude.{◌==◌, ◌&&◌, nat_le}
 use Rattle.std.specs.List.{list_all}
-use Rattle.std.proofs.lemmas.Bool.{and_parts}
+use Rattle.std.proofs.lemmas.Bool.{and_parts, leb-true}
 use Rattle.m11_base.specs.Devices.{Bytes}
 use Rattle.m11_base.specs.Mnemonics.{operation_named}
 use Rattle.m11_base.specs.NameCharacters.{six_of}
@@ -43,6 +43,7 @@ use Rattle.m11_asm_dump_laws.proofs.OperandTexts.{operands_kept, operands_open, 
 use Rattle.m11_asm_dump_laws.proofs.OperatorNames.{operator_is}
 use Rattle.m11_asm_dump_laws.proofs.ReadStatements.{Opens, body_named, labels_none}
 use Rattle.m11_asm_dump_laws.proofs.RowNames.{AreWithinWords, bare_parts, begins_with_point, is_padded, is_space, spaces}
+use Rattle.m11_asm_dump_laws.proofs.Widths.{IsWhole, line_width, whole_line}
 use Rattle.m11_asm_dump_laws.proofs.Tokens.{Stops, between, is_name_text, no_token, none_stops, past}
 
 -- ---- an even location
@@ -124,12 +125,24 @@ module _ (map_ : Map) (table : Table) (reads : ReadsAsMeant table) (even : locat
 
 -- ---- lines of operations
 
-name_parts : (name : Bytes) → is_padded name ≡ true
-    → (is_name_text (bare_name name) ≡ true) × (begins_with_point (bare_name name) ≡ false) × (list_all is_space (spaces name) ≡ true)
+record NameParts (name : Bytes) : Type 0 where
+  named : is_name_text (bare_name name) ≡ true
+  other : begins_with_point (bare_name name) ≡ false
+  spaced : list_all is_space (spaces name) ≡ true
+  short : length name ≤ 6
+
+name_parts : (name : Bytes) → is_padded name ≡ true → NameParts name
 name_parts name padded =
+    let ends : Bool = nat_le (length name) 6 in
+    let blank : Bool = list_all is_space (spaces name) in
     let first = and_parts (is_name_text (bare_name name)) _ padded in
-    let second = and_parts (not (begins_with_point (bare_name name))) (list_all is_space (spaces name)) first.1 in
-    (first.0, not_so (begins_with_point (bare_name name)) second.0, second.1)
+    let second = and_parts (not (begins_with_point (bare_name name))) (blank && ends) first.1 in
+    let third = and_parts blank ends second.1 in record {
+      named = first.0;
+      other = not_so (begins_with_point (bare_name name)) second.0;
+      spaced = third.0;
+      short = leb-true (length name) 6 third.1;
+    }
 
 -- a line with operands: the name, spaces, and the operands
 with_spaces : (name text : Bytes) → name_text name ++ text ≡ bare_name name ++ spaced (spaces name) text
@@ -174,7 +187,7 @@ module _ (map_ : Map) (table : Table) (reads : ReadsAsMeant table) (even : locat
   twice_known : KnowsRegisters (firm_known (firm_table table) here)
   twice_known = firm_knows (firm_table table) (firm_reads table reads) here
 
-  bare_assembled : IsLine given (bare_name name) → Means operation statements.Nothing (location table) words
+  bare_assembled : IsWhole given (bare_name name) → Means operation statements.Nothing (location table) words
       → Assembles map_ table given (map fixed_word words)
   bare_assembled this means =
       let parts = name_parts name padded in
@@ -183,11 +196,11 @@ module _ (map_ : Map) (table : Table) (reads : ReadsAsMeant table) (even : locat
       let emits_by : (firm : KnownSymbols) → KnowsRegisters firm → Emits context firm text after operation words =
       λ firm firmly. none_emitted context local global reads.section within firm firmly text after after refl
       (clean text [] after left refl) operation words means left in
-      name_assembled map_ table reads even within given this.whole this.own (bare_name name) parts.0 parts.1 operation is words [] at
+      name_assembled map_ table reads even within given this.whole this.own (bare_name name) parts.named parts.other operation is words [] at
       none_stops (subst Opens (sym (no_token text after left)) tt) (emits_by (firm_known table here) firmly_known).emitted
       (emits_by (firm_known (firm_table table) here) twice_known).sized
 
-  operands_assembled : (operands : Operands) → HasOperands operands → IsLine given (statement_text (statements.Named name operands))
+  operands_assembled : (operands : Operands) → HasOperands operands → IsWhole given (statement_text (statements.Named name operands))
       → Means operation operands (location table) words → AreWithinWords operands → Assembles map_ table given (map fixed_word words)
   operands_assembled operands there this means below =
       let parts = name_parts name padded in
@@ -198,21 +211,28 @@ module _ (map_ : Map) (table : Table) (reads : ReadsAsMeant table) (even : locat
       let column : ℕ = after + length gap + 1 in
       let begun : drop column text ≡ written =
       past text (0o40 ∷ []) written (after + length gap) (past text gap (0o40 ∷ written) after left) in
-      let same = spaces_first gap written text after parts.2 left in
+      let same = spaces_first gap written text after parts.spaced left in
       let emits_by : (firm : KnownSymbols) → KnowsRegisters firm → Emits context firm text after operation words =
       λ firm firmly. some_emitted context local global reads.section within firm firmly text after column same
-      (clean text (spaced gap written) after left (spaces_kept gap written parts.2 ∙ operands_kept operands))
+      (clean text (spaced gap written) after left (spaces_kept gap written parts.spaced ∙ operands_kept operands))
       operation operands words means below there begun in
-      name_assembled map_ table reads even within given this.whole this.own (bare_name name) parts.0 parts.1 operation is words
-      (spaced gap written) at (spaces_stop gap written parts.2) (subst Opens (sym same) (operands_open text column operands begun))
+      name_assembled map_ table reads even within given this.whole this.own (bare_name name) parts.named parts.other operation is words
+      (spaced gap written) at (spaces_stop gap written parts.spaced) (subst Opens (sym same) (operands_open text column operands begun))
       (emits_by (firm_known table here) firmly_known).emitted (emits_by (firm_known (firm_table table) here) twice_known).sized
+
+  any_assembled : (operands : Operands) → IsWhole given (statement_text (statements.Named name operands))
+      → Means operation operands (location table) words → AreWithinWords operands → Assembles map_ table given (map fixed_word words)
+  any_assembled statements.Nothing this means below = bare_assembled this means
+  any_assembled (statements.One a) this means below = operands_assembled (statements.One a) tt this means below
+  any_assembled (statements.Two a b) this means below = operands_assembled (statements.Two a b) tt this means below
+  any_assembled (statements.Target address) this means below = operands_assembled (statements.Target address) tt this means below
+  any_assembled (statements.Loop register address) this means below =
+      operands_assembled (statements.Loop register address) tt this means below
+  any_assembled (statements.Number number) this means below = operands_assembled (statements.Number number) tt this means below
 
   pub named_assembled : (operands : Operands) → IsLine given (statement_text (statements.Named name operands))
       → Means operation operands (location table) words → AreWithinWords operands → Assembles map_ table given (map fixed_word words)
-  named_assembled statements.Nothing this means below = bare_assembled this means
-  named_assembled (statements.One a) this means below = operands_assembled (statements.One a) tt this means below
-  named_assembled (statements.Two a b) this means below = operands_assembled (statements.Two a b) tt this means below
-  named_assembled (statements.Target address) this means below = operands_assembled (statements.Target address) tt this means below
-  named_assembled (statements.Loop register address) this means below =
-      operands_assembled (statements.Loop register address) tt this means below
-  named_assembled (statements.Number number) this means below = operands_assembled (statements.Number number) tt this means below
+  named_assembled operands this means below =
+      any_assembled operands
+      (whole_line given (statement_text (statements.Named name operands)) (line_width name operands (name_parts name padded).short) this)
+      means below

@@ -35,9 +35,9 @@ begins_with_point (byte ∷ text) = byte == 0o56
 abbrev pub spaces : Bytes → Bytes
 spaces name = drop (length (bare_name name)) name
 
--- a name up to its first space is a name that doesn't begin with a point, and all that is left is spaces
+-- a name up to its first space is a name that doesn't begin with a point, all that is left is spaces, and there are at most six characters
 abbrev pub is_padded : Bytes → Bool
-is_padded name = is_name_text (bare_name name) && (not (begins_with_point (bare_name name)) && list_all is_space (spaces name))
+is_padded name = is_name_text (bare_name name) && (not (begins_with_point (bare_name name)) && (list_all is_space (spaces name) && nat_le (length name) 6))
 
 abbrev is_blank : Row → Bool
 is_blank row = slice_index row.name 0 == 32

@@ -2,6 +2,7 @@
 use Rattle.std.specs.Prelude.{◌≡◌, false, List}
 use Rattle.m11_base.specs.Devices.{Bytes}
 use Rattle.m11_obj.specs.declared.pieces.PieceContent.{PieceContent}
+use Rattle.m11_scan.specs.Line.{line_of}
 use Rattle.m11_unfold_rules.specs.Unfolding.{UnfoldedLine}
 use Rattle.m11_asm_rules.specs.Changes.{with_move}
 use Rattle.m11_asm_rules.specs.Contents.{contents_size, pieces_from}
@@ -10,10 +11,9 @@ use Rattle.m11_asm_rules.specs.Locations.{Steps}
 use Rattle.m11_asm_rules.specs.Meanings.{Map}
 use Rattle.m11_asm_rules.specs.Tables.{Table, location, section_name}
 
--- a line with this text, all of which was stored, and which isn't a macro call or an operator that unfolding has handled
+-- a line with these characters, which isn't a macro call or an operator that unfolding has handled
 pub record IsLine (given : UnfoldedLine) (written : Bytes) : Type 0 where
-  pub text : given.live.line.text ≡ written
-  pub whole : given.live.line.is_over_long ≡ false
+  pub line : given.live.line ≡ line_of written
   pub own : given.is_own ≡ false
 
 -- a line emits these contents at the current location, has no flag but those of unfolding, and moves the counter on by their size

@@ -1,3 +1,4 @@
+use Rattle.m11_asm_dump_laws.proofs.Beginnings.{asect_reads}
 use Rattle.m11_asm_dump_laws.proofs.DumpedLines.{line_assembled}
 use Rattle.m11_asm_dump_laws.proofs.ReadData.{byte_assembled}
 use Rattle.m11_asm_dump_laws.proofs.lines.a_line_is_assembled_as_its_words.Goals as goal
@@ -8,3 +9,6 @@ returns-clause-words c symbols table given word more reads even within fits all 
 
 pub returns-clause-byte : goal.returns-clause-byte
 returns-clause-byte c symbols table given byte reads within small this = byte_assembled symbols table reads within given byte small this
+
+pub returns-clause-begins : goal.returns-clause-begins
+returns-clause-begins c symbols given this = asect_reads symbols given this
