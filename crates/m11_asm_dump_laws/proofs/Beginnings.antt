@@ -1,4 +1,4 @@
--- A source that begins with `.ASECT` has a table under which the lines of a disassembly mean what they say.
+-- A source that begins with `.ASECT` has a table under which the lines of a disassembly mean what they say, and a location counter.
 use Rattle.std.proofs.Common.{◌≡◌, ℕ, Bool, false, Option, refl, sym, subst, arith, codes}
 use Rattle.m11_base.specs.Devices.{Bytes}
 use Rattle.m11_base.specs.Rad50.{alphabet, code_of}
@@ -11,6 +11,7 @@ use Rattle.m11_asm_rules.specs.Lines.{after_line, change_of, line_change}
 use Rattle.m11_asm_rules.specs.Meanings.{Map}
 use Rattle.m11_asm_rules.specs.Operations.{action}
 use Rattle.m11_asm_rules.specs.Tables.{Table, firm_table, first_table}
+use Rattle.m11_asm_dump_laws.specs.Dumps.{HasCounter}
 use Rattle.m11_asm_dump_laws.specs.Knowledge.{ReadsAsMeant}
 use Rattle.m11_asm_dump_laws.specs.Lines.{IsLine}
 use Rattle.m11_asm_dump_laws.proofs.Widths.{IsWhole, whole_line}
@@ -43,3 +44,17 @@ whole_reads map_ given this =
 
 pub asect_reads : (map_ : Map) (given : UnfoldedLine) → IsLine given (codes ".ASECT") → ReadsAsMeant (after_line map_ first_table given)
 asect_reads map_ given this = whole_reads map_ given (whole_line given (codes ".ASECT") (omega arith) this)
+
+asect_counts : (map_ : Map) (arguments : Option ℕ) → HasCounter (after_text map_ arguments false (codes ".ASECT"))
+unfolding first_piece code_of alphabet
+asect_counts map_ arguments = omega arith
+
+whole_counts : (map_ : Map) (given : UnfoldedLine) → IsWhole given (codes ".ASECT") → HasCounter (after_line map_ first_table given)
+whole_counts map_ given this =
+    let P : Bool → Type 0 = λ b. HasCounter (after_text map_ given.arguments b given.live.line.text) in
+    let Q : Bytes → Type 0 = λ t. HasCounter (after_text map_ given.arguments false t) in
+    let R : Table → Type 0 = λ t. HasCounter t in
+    subst R (sym (after_is map_ given)) (subst P (sym this.own) (subst Q (sym this.text) (asect_counts map_ given.arguments)))
+
+pub asect_counted : (map_ : Map) (given : UnfoldedLine) → IsLine given (codes ".ASECT") → HasCounter (after_line map_ first_table given)
+asect_counted map_ given this = whole_counts map_ given (whole_line given (codes ".ASECT") (omega arith) this)

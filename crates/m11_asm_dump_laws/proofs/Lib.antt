@@ -20,3 +20,4 @@ pub mod Assembled
 pub mod ReadLines
 pub mod ReadData
 pub mod DumpedLines
+pub mod Consecutive

@@ -1,3 +1,4 @@
 pub mod Operands
 pub mod Knowledge
 pub mod Lines
+pub mod Dumps
