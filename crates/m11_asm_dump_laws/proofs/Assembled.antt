@@ -1,4 +1,4 @@
--- A line without labels, whose operator has no flag, assembles to what the operator emits.
+-- A line without labels, whose operator or assignment has no flag, assembles to what that emits.
 use Rattle.std.proofs.Common.{◌≡◌, ◌∙◌, ℕ, Bool, false, List, [], ap, ap₂}
 use Rattle.std.specs.Prelude.{if◌then◌else◌}
 use Rattle.std.specs.Int.Bits.{or_zero_l}
@@ -15,7 +15,7 @@ use Rattle.m11_scan_statements.specs.declared.bodies.Body.TheVariants as bodies
 use Rattle.m11_scan_statements.specs.declared.labels.Label.{Label}
 use Rattle.m11_unfold_rules.specs.Unfolding.{UnfoldedLine}
 use Rattle.m11_asm_rules.specs.Actions.{Action, NoAction, Operation, does}
-use Rattle.m11_asm_rules.specs.Changes.{Counts, changed, with_move}
+use Rattle.m11_asm_rules.specs.Changes.{Change, Counts, changed}
 use Rattle.m11_asm_rules.specs.Contents.{Emission, contents_size, emission, pieces_from}
 use Rattle.m11_asm_rules.specs.Labels.{labels_flags, with_labels}
 use Rattle.m11_asm_rules.specs.Lines.{after_line, change_of, emission_by, flags, known_end, line_change, line_emission, pieces, put_location, stands}
@@ -29,13 +29,20 @@ use Rattle.m11_asm_dump_laws.proofs.Terms.{nothing_skipped}
 abbrev pub operator_ending : ℕ → Body
 operator_ending end = bodies.Operate (record { start = 0; end = end })
 
+-- a line emits these contents and makes this change, and has no flag but those of unfolding
+pub record Yields (map_ : Map) (table : Table) (given : UnfoldedLine) (contents : List PieceContent) (change : Change) : Type 0 where
+  pub pieces : pieces map_ table given ≡ pieces_from (section_name table) (location table) contents
+  pub flags : flags map_ table given ≡ given.remarks.flags
+  pub after : after_line map_ table given ≡ changed map_ change table
+
 module _ (map_ : Map) (table : Table) (given : UnfoldedLine) (whole : given.live.line.is_over_long ≡ false) (own : given.is_own ≡ false)
-    (end : ℕ) (act : Action) (contents : List PieceContent)
-    (unlabelled : labels_at given.live.line.text ≡ []) (body : body_of given.live.line.text ≡ operator_ending end)
-    (acts : operation_of given.arguments given.live.line.text (operator_ending end) ≡ does act 0)
+    (written : Body) (act : Action) (contents : List PieceContent) (change : Change)
+    (unlabelled : labels_at given.live.line.text ≡ []) (body : body_of given.live.line.text ≡ written)
+    (acts : operation_of given.arguments given.live.line.text written ≡ does act 0)
+    (kept : skip_flags given.live.line.text 0 (known_end given.live.line.text written) ≡ 0)
     (emits : emission_by map_ table given.live.line.text act ≡ emission contents 0)
     (place : put_location table act ≡ location table)
-    (counts : change_of (firm_table table) given.live.line.text act ≡ Counts (Steps (contents_size contents))) where
+    (counts : change_of (firm_table table) given.live.line.text act ≡ change) where
   abbrev line : Bytes
   line = given.live.line.text
 
@@ -59,10 +66,10 @@ module _ (map_ : Map) (table : Table) (given : UnfoldedLine) (whole : given.live
       ∙ ap₂ (λ l m. pieces_from (section_name table) l m.contents) place emission_is
 
   abbrev flags_by : Bool → List Label → Body → Operation → Emission → Bool → ℕ
-  flags_by is_over_long labels written what emitted skips =
+  flags_by is_over_long labels statement what emitted skips =
       bit_or (bit_or (bit_or (bit_or (flag_if is_over_long flag_L) (flag_if (has_outside labels) flag_A)) (flag_if skips flag_I))
       (labels_flags line table labels))
-      (bit_or (skip_flags line (end_of 0 labels) (known_end line written)) (bit_or what.flags (bit_or emitted.flags given.remarks.flags)))
+      (bit_or (skip_flags line (end_of 0 labels) (known_end line statement)) (bit_or what.flags (bit_or emitted.flags given.remarks.flags)))
 
   flags_are : flags map_ table given ≡ given.remarks.flags
   flags_are =
@@ -78,18 +85,31 @@ module _ (map_ : Map) (table : Table) (given : UnfoldedLine) (whole : given.live
       (skipped_between line 0 (end_of 0 (labels_at line)))) operation_is
       ∙ ap (λ b. flags_by given.live.line.is_over_long (labels_at line) b (does act 0) (emission contents 0)
       (skipped_between line 0 (end_of 0 (labels_at line)))) body
-      ∙ ap (λ ls. flags_by given.live.line.is_over_long ls (operator_ending end) (does act 0) (emission contents 0)
+      ∙ ap (λ ls. flags_by given.live.line.is_over_long ls written (does act 0) (emission contents 0)
       (skipped_between line 0 (end_of 0 ls))) unlabelled
-      ∙ ap₂ (λ b s. flags_by b [] (operator_ending end) (does act 0) (emission contents 0) s) whole (nothing_skipped line 0)
-      ∙ ap (λ s. bit_or 0 (bit_or (flag_if s flag_I) (bit_or 0 (bit_or 0 given.remarks.flags)))) (nothing_skipped line 0)
+      ∙ ap₂ (λ b s. flags_by b [] written (does act 0) (emission contents 0) s) whole (nothing_skipped line 0)
+      ∙ ap (λ n. bit_or 0 (bit_or n (bit_or 0 (bit_or 0 given.remarks.flags)))) kept
       ∙ or_zero_l _ ∙ or_zero_l _ ∙ or_zero_l _ ∙ or_zero_l given.remarks.flags
 
-  moves_on : after_line map_ table given ≡ with_move (Steps (contents_size contents)) table
+  moves_on : after_line map_ table given ≡ changed map_ change table
   unfolding line_change
   moves_on =
       ap (λ t. changed map_ (line_change (firm_table t) given) t) stands_is
       ∙ ap (λ o. changed map_ (change_of (firm_table table) line o.action) table) operation_is
       ∙ ap (λ c. changed map_ c table) counts
 
-  pub assembles : Assembles map_ table given contents
-  assembles = record { pieces = pieces_are; flags = flags_are; after = moves_on }
+  pub yields : Yields map_ table given contents change
+  yields = record { pieces = pieces_are; flags = flags_are; after = moves_on }
+
+-- a line whose operator ends at a column, and moves the counter on by what it emits
+pub assembles : (map_ : Map) (table : Table) (given : UnfoldedLine) → given.live.line.is_over_long ≡ false → given.is_own ≡ false
+    → (end : ℕ) (act : Action) (contents : List PieceContent) → labels_at given.live.line.text ≡ []
+    → body_of given.live.line.text ≡ operator_ending end
+    → operation_of given.arguments given.live.line.text (operator_ending end) ≡ does act 0
+    → emission_by map_ table given.live.line.text act ≡ emission contents 0 → put_location table act ≡ location table
+    → change_of (firm_table table) given.live.line.text act ≡ Counts (Steps (contents_size contents))
+    → Assembles map_ table given contents
+assembles map_ table given whole own end act contents unlabelled body acts emits place counts =
+    let made = yields map_ table given whole own (operator_ending end) act contents (Counts (Steps (contents_size contents))) unlabelled
+    body acts (ap (λ b. flag_if b flag_I) (nothing_skipped given.live.line.text 0)) emits place counts in
+    record { pieces = made.pieces; flags = made.flags; after = made.after }

@@ -1,60 +1,216 @@
--- A source that begins with `.ASECT` has a table under which the lines of a disassembly mean what they say, and a location counter.
-use Rattle.std.proofs.Common.{◌≡◌, ℕ, Bool, false, Option, refl, sym, subst, arith, codes}
+-- The beginning of a source: `.ASECT`, which makes a table under which the lines of a disassembly mean what they say, and `.=` with an address.
+use Rattle.std.proofs.Common.{◌≡◌, ◌∙◌, ℕ, ◌+◌, ◌<◌, false, not, [], ◌∷◌, ◌++◌, length, drop, refl, sym, ap, ap₂, subst, arith, append-nil, codes}
+use Rattle.std.specs.Prelude.{if◌then◌else◌, unwrap_or, None, Some}
+use Rattle.std.specs.Int.RustNames.{bit_or}
+use Rattle.std.proofs.lemmas.Bool.{ne_eqb}
+use Rattle.std.proofs.lemmas.List.{drop_all}
 use Rattle.m11_base.specs.Devices.{Bytes}
+use Rattle.m11_base.specs.Names.{absolute_name}
 use Rattle.m11_base.specs.Rad50.{alphabet, code_of}
 use Rattle.m11_base.specs.declared.operand.Register.TheVariants.{R0, R1, R2, R3, R4, R5, Sp, Pc}
+use Rattle.m11_base_disassembly.specs.Numbers.{number_text}
+use Rattle.m11_base_disassembly.specs.Texts.{prefixed}
+use Rattle.m11_scan.specs.Cutting.{Lexeme, tokens_from}
+use Rattle.m11_scan.specs.Ends.{expression_end}
+use Rattle.m11_scan.specs.ErrorFlags.{flag_A, flag_I, flag_Q, flag_if}
 use Rattle.m11_scan.specs.Pieces.{first_piece}
+use Rattle.m11_scan.specs.Skipped.{has_skipped}
+use Rattle.m11_scan.specs.declared.sort.Form.TheVariants.{Cut}
+use Rattle.m11_scan.specs.declared.sort.Sort.TheVariants as sorts
+use Rattle.m11_scan_expressions.specs.LeftOvers.{has_token}
+use Rattle.m11_scan_expressions.specs.Quantities.{Quantity}
+use Rattle.m11_scan_expressions.specs.Tokens.{Expression, expression}
+use Rattle.m11_scan_statements.specs.Bodies.{body_in}
+use Rattle.m11_scan_statements.specs.Bodies as reading
+use Rattle.m11_scan_statements.specs.Labels.{end_of, labels_at, labels_in}
+use Rattle.m11_scan_statements.specs.Statements.{body_of}
+use Rattle.m11_scan_statements.specs.declared.bodies.Body.TheVariants as bodies
 use Rattle.m11_unfold_rules.specs.Unfolding.{UnfoldedLine}
-use Rattle.m11_asm_rules.specs.Changes.{changed}
-use Rattle.m11_asm_rules.specs.Labels.{after_labels_in}
-use Rattle.m11_asm_rules.specs.Lines.{after_line, change_of, line_change}
-use Rattle.m11_asm_rules.specs.Meanings.{Map}
-use Rattle.m11_asm_rules.specs.Operations.{action}
-use Rattle.m11_asm_rules.specs.Tables.{Table, firm_table, first_table}
+use Rattle.m11_asm_rules.specs.Actions.{Select, SetCounter, does}
+use Rattle.m11_asm_rules.specs.Assigning.{counter_change, counter_flags}
+use Rattle.m11_asm_rules.specs.Changes.{Counts, Keeps, Selects, with_section}
+use Rattle.m11_asm_rules.specs.Contents.{nothing, register_flags}
+use Rattle.m11_asm_rules.specs.Lines.{after_line}
+use Rattle.m11_asm_rules.specs.Locations.{Goes}
+use Rattle.m11_asm_rules.specs.Meanings.{Map, firm_known}
+use Rattle.m11_asm_rules.specs.Operations.{operation_of}
+use Rattle.m11_asm_rules.specs.Relocations.{is_here}
+use Rattle.m11_asm_rules.specs.Sections.{of_absolute}
+use Rattle.m11_asm_rules.specs.Tables.{Table, firm_table, first_table, location, section_name}
 use Rattle.m11_asm_dump_laws.specs.Dumps.{HasCounter}
 use Rattle.m11_asm_dump_laws.specs.Knowledge.{ReadsAsMeant}
 use Rattle.m11_asm_dump_laws.specs.Lines.{IsLine}
-use Rattle.m11_asm_dump_laws.proofs.Widths.{IsWhole, whole_line}
+use Rattle.m11_asm_dump_laws.specs.Operands.{number_written}
+use Rattle.m11_asm_dump_laws.proofs.ArgumentTexts.{digits_begin, token_kept}
+use Rattle.m11_asm_dump_laws.proofs.Assembled.{Yields, operator_ending, yields}
+use Rattle.m11_asm_dump_laws.proofs.Digits.{AreOctal, text_octal}
+use Rattle.m11_asm_dump_laws.proofs.Known.{firm_knows, firm_reads}
+use Rattle.m11_asm_dump_laws.proofs.LineEnds.{kept_to_end}
+use Rattle.m11_asm_dump_laws.proofs.OperandTexts.{digits_kept}
+use Rattle.m11_asm_dump_laws.proofs.Quantities.{number_value}
+use Rattle.m11_asm_dump_laws.proofs.Terms.{EndTerm, end_read, expression_read, nothing_skipped}
+use Rattle.m11_asm_dump_laws.proofs.Tokens.{Begins, Stops, name_begins, no_token, none_stops, past, token_at, token_first}
+use Rattle.m11_asm_dump_laws.proofs.Widths.{IsWhole, number_width, whole_line}
 
--- the table after a first line with this text
-abbrev after_text : Map → Option ℕ → Bool → Bytes → Table
-after_text map_ arguments is_own text =
-    let stood = after_labels_in first_table text in
-    changed map_ (change_of (firm_table stood) text (action is_own arguments text)) stood
+-- ---- `.ASECT`
 
-after_is : (map_ : Map) (given : UnfoldedLine)
-    → after_line map_ first_table given ≡ after_text map_ given.arguments given.is_own given.live.line.text
-unfolding line_change
-after_is map_ given = refl
+-- the table after `.ASECT` as the first line
+abbrev pub absolute_table : Table
+absolute_table = with_section absolute_name of_absolute first_table
 
-after_asect : (map_ : Map) (arguments : Option ℕ) → ReadsAsMeant (after_text map_ arguments false (codes ".ASECT"))
-unfolding first_piece code_of alphabet
-after_asect map_ arguments = record {
+asect_unlabelled : labels_at (codes ".ASECT") ≡ []
+unfolding first_piece
+asect_unlabelled = refl
+
+asect_body : body_of (codes ".ASECT") ≡ operator_ending 6
+unfolding first_piece
+asect_body = refl
+
+asect_acts : (given : UnfoldedLine)
+    → operation_of given.arguments (codes ".ASECT") (operator_ending 6) ≡ does (Select absolute_name of_absolute []) 0
+unfolding first_piece
+asect_acts given = refl
+
+asect_whole : (map_ : Map) (given : UnfoldedLine) → IsWhole given (codes ".ASECT")
+    → Yields map_ first_table given [] (Selects absolute_name of_absolute)
+unfolding code_of alphabet
+asect_whole map_ given this =
+    yields map_ first_table given this.whole this.own (operator_ending 6) (Select absolute_name of_absolute []) []
+    (Selects absolute_name of_absolute) (ap labels_at this.text ∙ asect_unlabelled) (ap body_of this.text ∙ asect_body)
+    (ap (λ t. operation_of given.arguments t (operator_ending 6)) this.text ∙ asect_acts given)
+    (ap (λ b. flag_if b flag_I) (nothing_skipped given.live.line.text 0)) refl refl refl
+
+pub asect_yields : (map_ : Map) (given : UnfoldedLine) → IsLine given (codes ".ASECT")
+    → Yields map_ first_table given [] (Selects absolute_name of_absolute)
+asect_yields map_ given this = asect_whole map_ given (whole_line given (codes ".ASECT") (omega arith) this)
+
+pub absolute_reads : ReadsAsMeant absolute_table
+unfolding code_of alphabet
+absolute_reads = record {
   section = refl;
   radix = refl;
   registers = elim [ R0 ↦ refl | R1 ↦ refl | R2 ↦ refl | R3 ↦ refl | R4 ↦ refl | R5 ↦ refl | Sp ↦ refl | Pc ↦ refl ];
   once = λ register. refl;
 }
 
-whole_reads : (map_ : Map) (given : UnfoldedLine) → IsWhole given (codes ".ASECT") → ReadsAsMeant (after_line map_ first_table given)
-whole_reads map_ given this =
-    let P : Bool → Type 0 = λ b. ReadsAsMeant (after_text map_ given.arguments b given.live.line.text) in
-    let Q : Bytes → Type 0 = λ t. ReadsAsMeant (after_text map_ given.arguments false t) in
-    subst ReadsAsMeant (sym (after_is map_ given)) (subst P (sym this.own) (subst Q (sym this.text) (after_asect map_ given.arguments)))
+pub absolute_counts : HasCounter absolute_table
+unfolding code_of alphabet
+absolute_counts = omega arith
+
+pub absolute_section : section_name absolute_table ≡ absolute_name
+unfolding code_of alphabet
+absolute_section = refl
 
 pub asect_reads : (map_ : Map) (given : UnfoldedLine) → IsLine given (codes ".ASECT") → ReadsAsMeant (after_line map_ first_table given)
-asect_reads map_ given this = whole_reads map_ given (whole_line given (codes ".ASECT") (omega arith) this)
-
-asect_counts : (map_ : Map) (arguments : Option ℕ) → HasCounter (after_text map_ arguments false (codes ".ASECT"))
-unfolding first_piece code_of alphabet
-asect_counts map_ arguments = omega arith
-
-whole_counts : (map_ : Map) (given : UnfoldedLine) → IsWhole given (codes ".ASECT") → HasCounter (after_line map_ first_table given)
-whole_counts map_ given this =
-    let P : Bool → Type 0 = λ b. HasCounter (after_text map_ given.arguments b given.live.line.text) in
-    let Q : Bytes → Type 0 = λ t. HasCounter (after_text map_ given.arguments false t) in
-    let R : Table → Type 0 = λ t. HasCounter t in
-    subst R (sym (after_is map_ given)) (subst P (sym this.own) (subst Q (sym this.text) (asect_counts map_ given.arguments)))
+asect_reads map_ given this = subst ReadsAsMeant (sym (asect_yields map_ given this).after) absolute_reads
 
 pub asect_counted : (map_ : Map) (given : UnfoldedLine) → IsLine given (codes ".ASECT") → HasCounter (after_line map_ first_table given)
-asect_counted map_ given this = whole_counts map_ given (whole_line given (codes ".ASECT") (omega arith) this)
+asect_counted map_ given this =
+    let P : Table → Type 0 = λ t. HasCounter t in subst P (sym (asect_yields map_ given this).after) absolute_counts
+
+-- ---- `.=` with an address
+
+equals_stops : (rest : Bytes) → Stops (0o75 ∷ rest)
+equals_stops rest = record { name = refl; digits = refl; number = λ count. refl }
+
+equals_begins : (digits : Bytes) → AreOctal digits → Begins sorts.Equals (0o75 ∷ []) digits
+unfolding first_piece
+equals_begins [] all = record { some = omega arith; is = refl }
+equals_begins (digit ∷ digits) all =
+    let other : digit ≡ 0o75 → ⊥ = λ e. absurd (omega (arith, all.0.1, e)) in record {
+      some = omega arith;
+      is = ap (λ b. if b then record { form = Cut sorts.TwoEquals; length = 2 } else record { form = Cut sorts.Equals; length = 1 })
+          (ne_eqb digit 0o75 other);
+    }
+
+module _ (line : Bytes) (address : ℕ) (at : line ≡ prefixed (codes ".=") address) where
+  abbrev digits : Bytes
+  digits = number_text address
+
+  abbrev point : Lexeme
+  point = token_at sorts.Name 0 (0o56 ∷ [])
+
+  abbrev equals : Lexeme
+  equals = token_at sorts.Equals 1 (0o75 ∷ [])
+
+  abbrev final : ℕ
+  final = 2 + length digits
+
+  after_point : drop 1 line ≡ 0o75 ∷ digits
+  after_point = past line (0o56 ∷ []) (0o75 ∷ digits) 0 at
+
+  after_equals : drop 2 line ≡ digits
+  after_equals = past line (0o75 ∷ []) digits 1 after_point
+
+  written : drop 2 line ≡ digits ++ []
+  written = after_equals ∙ sym (append-nil digits)
+
+  done : drop final line ≡ []
+  done = past line digits [] 2 written
+
+  tokens_are : tokens_from line 0 ≡ point ∷ (equals ∷ tokens_from line 2)
+  tokens_are =
+      token_first sorts.Name (0o56 ∷ []) (0o75 ∷ digits) line 0 (name_begins (0o56 ∷ []) (0o75 ∷ digits) refl (equals_stops digits)) at
+      ∙ ap (λ ts. point ∷ ts)
+      (token_first sorts.Equals (0o75 ∷ []) digits line 1 (equals_begins digits (text_octal address)) after_point)
+
+  set_unlabelled : labels_at line ≡ []
+  set_unlabelled = ap labels_in tokens_are
+
+  set_body : body_of line ≡ bodies.SetCounter 2
+  set_body =
+      ap (λ labels. body_in line (tokens_from line (end_of 0 labels))) set_unlabelled
+      ∙ ap (body_in line) tokens_are
+      ∙ ap (λ b. unwrap_or (if b then None else Some (bodies.SetCounter 2)) (reading.operation point)) (nothing_skipped line 1)
+
+  ends : EndTerm (tokens_from line final)
+  ends = subst EndTerm (sym (no_token line final done)) refl
+
+  address_is : expression line 2 ≡ number_written address
+  address_is = expression_read line 2 2 refl sorts.Number digits [] (digits_begin address [] none_stops) refl written ends
+
+  address_ends : expression_end line 2 ≡ final
+  address_ends = end_read line 2 2 refl sorts.Number digits [] (digits_begin address [] none_stops) refl written ends
+
+  set_acts : (given : UnfoldedLine) → operation_of given.arguments line (bodies.SetCounter 2) ≡ does (SetCounter (number_written address)) 0
+  set_acts given =
+      ap₂ (λ e n. does (SetCounter e) (flag_if (has_token (tokens_from line n)) flag_Q)) address_is address_ends
+      ∙ ap (λ ts. does (SetCounter (number_written address)) (flag_if (has_token ts) flag_Q)) (no_token line final done)
+
+  set_kept : has_skipped line ≡ false
+  set_kept =
+      ap has_skipped at
+      ∙ token_kept sorts.Name (0o56 ∷ []) (0o75 ∷ digits) (name_begins (0o56 ∷ []) (0o75 ∷ digits) refl (equals_stops digits))
+      ∙ token_kept sorts.Equals (0o75 ∷ []) digits (equals_begins digits (text_octal address))
+      ∙ digits_kept address
+
+module _ (map_ : Map) (table : Table) (reads : ReadsAsMeant table) (given : UnfoldedLine) (address : ℕ) (below : address < 65536) where
+  abbrev tokens : Expression
+  tokens = number_written address
+
+  set_emits : nothing (counter_flags table tokens) ≡ nothing 0
+  set_emits =
+      ap (λ (q : Quantity). nothing (bit_or q.flags (bit_or (register_flags q.kind) (if is_here table q.kind then 0 else flag_A))))
+      (number_value (firm_known table (location table)) address (firm_knows table reads (location table)) below)
+      ∙ ap (λ b. nothing (if not b then 0 else flag_A)) reads.section
+
+  set_changes : counter_change (firm_table table) tokens ≡ Counts (Goes address)
+  set_changes =
+      let firm = firm_table table in
+      ap (λ (q : Quantity). if is_here firm q.kind then Counts (Goes q.number) else Keeps)
+      (number_value (firm_known firm (location firm)) address (firm_knows firm (firm_reads table reads) (location firm)) below)
+      ∙ ap (λ b. if not b then Counts (Goes address) else Keeps) reads.section
+
+  set_whole : IsWhole given (prefixed (codes ".=") address) → Yields map_ table given [] (Counts (Goes address))
+  set_whole this =
+      let line : Bytes = given.live.line.text in
+      yields map_ table given this.whole this.own (bodies.SetCounter 2) (SetCounter tokens) [] (Counts (Goes address))
+      (set_unlabelled line address this.text) (set_body line address this.text) (set_acts line address this.text given)
+      (ap (λ b. flag_if b flag_I)
+      (kept_to_end line line 0 (length line) refl (set_kept line address this.text) (drop_all (length line) line (omega arith))))
+      set_emits refl set_changes
+
+  pub set_yields : IsLine given (prefixed (codes ".=") address) → Yields map_ table given [] (Counts (Goes address))
+  set_yields this =
+      let size = number_width address in
+      set_whole (whole_line given (prefixed (codes ".=") address) (omega (arith, size)) this)

@@ -13,9 +13,9 @@ use Rattle.m11_base_disassembly.specs.Meaning.{AreWords}
 use Rattle.m11_base_disassembly.specs.Texts.{statement_text}
 use Rattle.m11_obj.specs.declared.pieces.Piece.{Piece}
 use Rattle.m11_unfold_rules.specs.Unfolding.{UnfoldedLine}
-use Rattle.m11_asm_rules.specs.Changes.{with_move}
+use Rattle.m11_asm_rules.specs.Changes.{moved, with_move}
 use Rattle.m11_asm_rules.specs.Contents.{contents_size, fixed_word, further, pieces_from}
-use Rattle.m11_asm_rules.specs.Locations.{Steps}
+use Rattle.m11_asm_rules.specs.Locations.{Move, Steps}
 use Rattle.m11_asm_rules.specs.Meanings.{Map}
 use Rattle.m11_asm_rules.specs.Placements.{LinePlacement, placed_from}
 use Rattle.m11_asm_rules.specs.Tables.{Table, location, section_name}
@@ -75,13 +75,12 @@ pieces_parted section here (word ∷ first) rest within =
 
 -- ---- the table after a line
 
--- the counter of the current section after it moves on
-counter_is : (table : Table) (size : ℕ) → HasCounter table → location (with_move (Steps size) table) ≡ further (location table) size
-counter_is table size counted =
-    get_or-set_same table.counters table.modes.section (further (location table) size) 0 counted
+-- the counter of the current section after a move
+pub counter_is : (table : Table) (move : Move) → HasCounter table → location (with_move move table) ≡ moved move (location table)
+counter_is table move counted = get_or-set_same table.counters table.modes.section (moved move (location table)) 0 counted
 
-still_reads : (table : Table) (size : ℕ) → ReadsAsMeant table → ReadsAsMeant (with_move (Steps size) table)
-still_reads table size reads =
+pub still_reads : (table : Table) (move : Move) → ReadsAsMeant table → ReadsAsMeant (with_move move table)
+still_reads table move reads =
     record { section = reads.section; radix = reads.radix; registers = reads.registers; once = reads.once }
 
 still_even : (here size : ℕ) → here % 2 ≡ 0 → further here (size * 2) % 2 ≡ 0
@@ -90,11 +89,18 @@ still_even here size even = omega arith
 same_place : (here size : ℕ) → further here (size * 2) ≡ location_after here (2 * size)
 same_place here size = omega arith
 
-still_counted : (table : Table) (size : ℕ) → HasCounter table → HasCounter (with_move (Steps size) table)
-still_counted table size counted =
-    let same = length-set table.counters table.modes.section (further (location table) size) in omega (arith, counted, same)
+pub still_counted : (table : Table) (move : Move) → HasCounter table → HasCounter (with_move move table)
+still_counted table move counted =
+    let same = length-set table.counters table.modes.section (moved move (location table)) in omega (arith, counted, same)
 
 -- ---- one line, and those after it
+
+-- the pieces of placed lines, and their flags
+abbrev pub pieces_in : List LinePlacement → List Piece
+pieces_in lines = flat_map (λ (line : LinePlacement). line.pieces) lines
+
+abbrev pub flags_in : List LinePlacement → List ℕ
+flags_in lines = map (λ (line : LinePlacement). line.flags) lines
 
 module _ (symbols : Map) where
   -- the words of a line's part of the words that are left
@@ -106,12 +112,6 @@ module _ (symbols : Map) where
 
   bytes_are : (word : ℕ) (more : List ℕ) → bytes word more ≡ size_of word more * 2
   bytes_are word more = sym (words_size (own word more)) ∙ ap (λ n. n * 2) (size_taken word more)
-
-  abbrev pieces_in : List LinePlacement → List Piece
-  pieces_in lines = flat_map (λ (line : LinePlacement). line.pieces) lines
-
-  abbrev flags_in : List LinePlacement → List ℕ
-  flags_in lines = map (λ (line : LinePlacement). line.flags) lines
 
   module _ (table : Table) (given : UnfoldedLine) (lines : List UnfoldedLine) (word : ℕ) (more rest : List ℕ)
       (one : Assembles symbols table given (map fixed_word (own word more))) (counted : HasCounter table) (within : location table < 65536)
@@ -134,7 +134,7 @@ module _ (symbols : Map) where
     pieces_joined =
         ap₂ (λ p t. p ++ pieces_in (placed_from symbols t lines)) one.pieces one.after
         ∙ ap (λ p. first ++ p) others.pieces
-        ∙ ap (λ n. first ++ pieces_from section n (map fixed_word left)) (counter_is table (bytes word more) counted)
+        ∙ ap (λ n. first ++ pieces_from section n (map fixed_word left)) (counter_is table (Steps (bytes word more)) counted)
         ∙ sym (pieces_parted section here (own word more) left within)
         ∙ ap (λ l. pieces_from section here (map fixed_word l)) (sym (parted (size_of word more) (word ∷ more) rest))
 
@@ -151,7 +151,7 @@ module _ (symbols : Map) where
   next_place : (table : Table) (here word : ℕ) (more : List ℕ) → HasCounter table → location table ≡ here
       → location (with_move (Steps (bytes word more)) table) ≡ location_after here (2 * size_of word more)
   next_place table here word more counted at =
-      counter_is table (bytes word more) counted
+      counter_is table (Steps (bytes word more)) counted
       ∙ ap₂ (λ l n. further l n) at (bytes_are word more) ∙ same_place here (size_of word more)
 
   place_even : (here count : ℕ) → here % 2 ≡ 0 → location_after here (2 * count) % 2 ≡ 0
@@ -180,5 +180,5 @@ module _ (symbols : Map) where
       words_right (take count first) (drop count first ++ rest) (subst AreWords (parted count first rest) all) in
       joined table given lines word more rest one counted (subst W back within)
       (placed_words (location_after place (2 * count)) (drop count first ++ rest) texts next after
-      (next_place table place word more counted at) (still_reads table (bytes word more) reads)
-      (still_counted table (bytes word more) counted) (place_even place count even) (place_within place (2 * count)) left lines read.1)
+      (next_place table place word more counted at) (still_reads table (Steps (bytes word more)) reads)
+      (still_counted table (Steps (bytes word more)) counted) (place_even place count even) (place_within place (2 * count)) left lines read.1)

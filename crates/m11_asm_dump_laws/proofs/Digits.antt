@@ -14,7 +14,7 @@ use Rattle.m11_scan.specs.Numbers.{has_digit_outside, number_flags, number_of, s
 use Rattle.m11_scan.specs.declared.radix.Radix.TheVariants.{Octal}
 
 -- the characters are octal digits
-abbrev AreOctal : Bytes → Type 0
+abbrev pub AreOctal : Bytes → Type 0
 AreOctal digits = AllByRecursion (λ digit. (48 ≤ digit) × (digit < 56)) digits
 
 digit_octal : (n : ℕ) → (48 ≤ 48 + n % 8) × (48 + n % 8 < 56)

@@ -21,3 +21,4 @@ pub mod ReadLines
 pub mod ReadData
 pub mod DumpedLines
 pub mod Consecutive
+pub mod WholeSources

@@ -31,7 +31,7 @@ significant_width [] = omega arith
 significant_width (digit ∷ digits) =
     shorter (digit == 48 && nat_lt 0 (length digits)) digit digits (significant_width digits)
 
-number_width : (number : ℕ) → length (number_text number) ≤ 6
+pub number_width : (number : ℕ) → length (number_text number) ≤ 6
 number_width number = significant_width (octal_text number)
 
 register_width : (register : Register) → length (register_text register) ≡ 2

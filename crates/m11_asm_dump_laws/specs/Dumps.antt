@@ -1,13 +1,15 @@
--- The lines of words that lie one after another, and their assembly. (MACRO-11 Language Reference Manual, "Current location counter".)
-use Rattle.std.specs.Prelude.{◌≡◌, ◌*◌, ◌<◌, ℕ, List, [], ◌∷◌, ◌++◌, drop, length, map}
+-- The lines of words that lie one after another, and their assembly. (MACRO-11 Language Reference Manual, ".ASECT directive" and "Current
+-- location counter".)
+use Rattle.std.specs.Prelude.{◌≡◌, ◌*◌, ◌<◌, ℕ, List, [], ◌∷◌, ◌++◌, codes, drop, length, map}
 use Rattle.std.specs.List.{flat_map}
 use Rattle.m11_base.specs.Devices.{Bytes}
+use Rattle.m11_base.specs.Names.{absolute_name}
 use Rattle.m11_base_disassembly.specs.Instructions.{location_after, size_of, statement_of}
-use Rattle.m11_base_disassembly.specs.Texts.{statement_text}
+use Rattle.m11_base_disassembly.specs.Texts.{prefixed, statement_text}
 use Rattle.m11_unfold_rules.specs.Unfolding.{UnfoldedLine}
 use Rattle.m11_asm_rules.specs.Contents.{fixed_word, pieces_from}
 use Rattle.m11_asm_rules.specs.Meanings.{Map}
-use Rattle.m11_asm_rules.specs.Placements.{placed_from}
+use Rattle.m11_asm_rules.specs.Placements.{placed_from, placement}
 use Rattle.m11_asm_rules.specs.Tables.{Table, location, section_name}
 use Rattle.m11_asm_dump_laws.specs.Lines.{IsLine}
 
@@ -35,3 +37,15 @@ pub record AssembleTo (symbols : Map) (table : Table) (lines : List UnfoldedLine
   pub pieces : flat_map (λ placed. placed.pieces) (placed_from symbols table lines)
       ≡ pieces_from (section_name table) (location table) (map fixed_word words)
   pub flags : map (λ placed. placed.flags) (placed_from symbols table lines) ≡ map (λ given. given.remarks.flags) lines
+
+-- ---- a source
+
+-- a source that has these lines at an address
+abbrev pub source_at : ℕ → List Bytes → List Bytes
+source_at address texts = codes ".ASECT" ∷ (prefixed (codes ".=") address ∷ texts)
+
+-- the lines of a source emit these words at an address of the absolute section and nothing else, and have no flags but those of unfolding
+pub record AssembleAt (symbols : Map) (lines : List UnfoldedLine) (address : ℕ) (words : List ℕ) : Type 0 where
+  pub pieces : flat_map (λ placed. placed.pieces) (placement symbols lines)
+      ≡ pieces_from absolute_name address (map fixed_word words)
+  pub flags : map (λ placed. placed.flags) (placement symbols lines) ≡ map (λ given. given.remarks.flags) lines

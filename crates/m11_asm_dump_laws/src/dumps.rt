@@ -7,7 +7,7 @@ ghost use Rattle.m11_unfold_rules.specs.Unfolding.{UnfoldedLine};
 ghost use Rattle.m11_asm_rules.specs.Lines.{after_line};
 ghost use Rattle.m11_asm_rules.specs.Meanings.{Map};
 ghost use Rattle.m11_asm_rules.specs.Tables.{Table, first_table, location};
-ghost use Rattle.m11_asm_dump_laws.specs.Dumps.{AreLinesOf, AreRead, AssembleTo, HasCounter};
+ghost use Rattle.m11_asm_dump_laws.specs.Dumps.{AreLinesOf, AreRead, AssembleAt, AssembleTo, HasCounter, source_at};
 ghost use Rattle.m11_asm_dump_laws.specs.Knowledge.{ReadsAsMeant};
 ghost use Rattle.m11_asm_dump_laws.specs.Lines.{IsLine};
 
@@ -19,4 +19,13 @@ pub fn lines_are_assembled_as_their_words()
         → AreLinesOf (location table) words texts → AreRead lines texts → AssembleTo symbols table lines words }
     ensures begins { (symbols : Map) (given : UnfoldedLine) → IsLine given (codes ".ASECT")
         → HasCounter (after_line symbols first_table given) }
+{}
+
+/// A source that selects the absolute section, sets the location counter to an even address, and has the lines of words there is assembled as
+/// just these words at this address, without a flag. All words have such lines.
+pub fn dumped_words_are_assembled_again()
+    ensures words { (symbols : Map) (lines : List UnfoldedLine) (address : ℕ) (words : List ℕ) (texts : List Bytes)
+        → address % 2 ≡ 0 → address < 65536 → AreWords words → AreLinesOf address words texts
+        → AreRead lines (source_at address texts) → AssembleAt symbols lines address words }
+    ensures exists { (address : ℕ) (words : List ℕ) → (texts : List Bytes) × AreLinesOf address words texts }
 {}

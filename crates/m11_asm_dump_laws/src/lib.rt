@@ -9,9 +9,9 @@ mod values;
 pub use operands::operands_are_read_as_they_are_written;
 pub use values::{digits_spell_their_number, numbers_and_registers_have_their_values};
 
-// Whole lines, and lines of consecutive words.
+// Whole lines; lines of consecutive words, and sources of them.
 mod dumps;
 mod lines;
 
-pub use dumps::lines_are_assembled_as_their_words;
+pub use dumps::{dumped_words_are_assembled_again, lines_are_assembled_as_their_words};
 pub use lines::a_line_is_assembled_as_its_words;
