@@ -62,7 +62,7 @@ asect_unlabelled : labels_at (codes ".ASECT") ≡ []
 unfolding first_piece
 asect_unlabelled = refl
 
-asect_body : body_of (codes ".ASECT") ≡ operator_ending 6
+pub asect_body : body_of (codes ".ASECT") ≡ operator_ending 6
 unfolding first_piece
 asect_body = refl
 
@@ -157,7 +157,7 @@ module _ (line : Bytes) (address : ℕ) (at : line ≡ prefixed (codes ".=") add
   set_unlabelled : labels_at line ≡ []
   set_unlabelled = ap labels_in tokens_are
 
-  set_body : body_of line ≡ bodies.SetCounter 2
+  pub set_body : body_of line ≡ bodies.SetCounter 2
   set_body =
       ap (λ labels. body_in line (tokens_from line (end_of 0 labels))) set_unlabelled
       ∙ ap (body_in line) tokens_are

@@ -22,3 +22,6 @@ pub mod ReadData
 pub mod DumpedLines
 pub mod Consecutive
 pub mod WholeSources
+pub mod LeftAlone
+pub mod PlainSources
+pub mod Example

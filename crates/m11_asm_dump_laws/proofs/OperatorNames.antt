@@ -20,14 +20,16 @@ use Rattle.m11_asm_dump_laws.proofs.Tokens.{is_name_text}
 
 -- ---- no directive has a name without a point
 
-abbrev IsPointed : DirectiveRow → Type 0
-IsPointed row = begins_with_point row.name ≡ true
+-- the names of these rows begin with a point
+abbrev pub ArePointed : {R : Type 0} → (R → Bytes) → List R → Type 0
+ArePointed name_of rows = AllByRecursion (λ row. begins_with_point (name_of row) ≡ true) rows
 
-all_by : (list : List DirectiveRow) → list_all (λ row. begins_with_point row.name) list ≡ true → AllByRecursion IsPointed list
-all_by [] e = tt
-all_by (row ∷ list) e =
-    let parts = and_parts (begins_with_point row.name) (list_all (λ r. begins_with_point r.name) list) e in
-    (parts.0, all_by list parts.1)
+pub all_pointed : {R : Type 0} (name_of : R → Bytes) (list : List R) → list_all (λ row. begins_with_point (name_of row)) list ≡ true
+    → ArePointed name_of list
+all_pointed name_of [] e = tt
+all_pointed name_of (row ∷ list) e =
+    let parts = and_parts (begins_with_point (name_of row)) (list_all (λ r. begins_with_point (name_of r)) list) e in
+    (parts.0, all_pointed name_of list parts.1)
 
 differs : (name text : Bytes) → begins_with_point name ≡ true → begins_with_point text ≡ false → bytes_eq name text ≡ false
 differs name text pointed other =
@@ -38,12 +40,12 @@ differs name text pointed other =
       | inr is ↦ is
     ]
 
-none_found : (list : List DirectiveRow) (text : Bytes) → AllByRecursion IsPointed list → begins_with_point text ≡ false
-    → find (λ row. bytes_eq row.name text) list ≡ None
-none_found [] text all other = refl
-none_found (row ∷ list) text all other =
-    ap (λ b. if b then Some row else find (λ r. bytes_eq r.name text) list) (differs row.name text all.0 other)
-    ∙ none_found list text all.1 other
+pub none_found : {R : Type 0} (name_of : R → Bytes) (list : List R) (text : Bytes) → ArePointed name_of list
+    → begins_with_point text ≡ false → find (λ row. bytes_eq (name_of row) text) list ≡ None
+none_found name_of [] text all other = refl
+none_found name_of (row ∷ list) text all other =
+    ap (λ b. if b then Some row else find (λ r. bytes_eq (name_of r) text) list) (differs (name_of row) text all.0 other)
+    ∙ none_found name_of list text all.1 other
 
 -- a character in upper case is a point only if the character is one
 folded_point : (byte : ℕ) → (byte == 0o56) ≡ false → (folded byte == 0o56) ≡ false
@@ -55,7 +57,7 @@ folded_point byte other =
       | inr is ↦ ap (λ b. (if b then byte - 0o40 else byte) == 0o56) is ∙ other
     ]
 
-six_point : (name : Bytes) → is_name_text name ≡ true → begins_with_point name ≡ false → begins_with_point (six_of name) ≡ false
+pub six_point : (name : Bytes) → is_name_text name ≡ true → begins_with_point name ≡ false → begins_with_point (six_of name) ≡ false
 six_point [] named other = refl
 six_point (byte ∷ name) named other =
     ap (λ b. (if b then folded byte else 0o40) == 0o56) (lt-ltb 0 (length (byte ∷ name)) (omega arith)) ∙ folded_point byte other
@@ -79,5 +81,6 @@ pub operator_is : (name : Bytes) (operation : Op) → is_name_text name ≡ true
     → operation_named name ≡ Some operation → operator_named (six_of name) ≡ Some (operators.Instruction operation)
 operator_is name operation named other is =
     ap (λ d. operator_by d (or_else (named_in rows (six_of name)) (named_in other_names (six_of name))))
-    (none_found directive_rows (six_of name) (all_by directive_rows refl) (six_point name named other))
+    (none_found (λ (row : DirectiveRow). row.name) directive_rows (six_of name)
+    (all_pointed (λ (row : DirectiveRow). row.name) directive_rows refl) (six_point name named other))
     ∙ ap (option_map operators.Instruction) (sym (instruction_found name named) ∙ is)

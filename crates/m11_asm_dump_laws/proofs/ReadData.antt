@@ -41,7 +41,7 @@ use Rattle.m11_asm_dump_laws.proofs.Tokens.{between, no_token, none_stops, past}
 use Rattle.m11_asm_dump_laws.proofs.Quantities.{number_value}
 
 -- two spaces are between the name of a directive and its number
-abbrev gap : Bytes
+abbrev pub gap : Bytes
 gap = 0o40 ∷ []
 
 -- a list of one number, after the name of a directive
@@ -96,7 +96,7 @@ module _ (line name : Bytes) (number : ℕ) (at : line ≡ name ++ spaced gap (n
   cleaned : argument_flags line start final ≡ 0
   cleaned = clean line (spaced gap digits) start left (spaces_kept gap digits refl ∙ digits_kept number) final done
 
-  opens : Opens (tokens_from line start)
+  pub opens : Opens (tokens_from line start)
   opens = subst Opens (sym same) (operands_open line column (statements.Number number) begun)
 
 odd_place : (here : ℕ) → here < 65536 → location_for false here ≡ here

@@ -68,12 +68,12 @@ not_so : (b : Bool) → not b ≡ true → b ≡ false
 not_so true e = absurd (cc)
 not_so false e = refl
 
-no_counter : (name : Bytes) → begins_with_point name ≡ false → is_counter name ≡ false
+pub no_counter : (name : Bytes) → begins_with_point name ≡ false → is_counter name ≡ false
 no_counter [] other = refl
 no_counter (byte ∷ []) other = other
 no_counter (byte ∷ (next ∷ name)) other = refl
 
-some_name : (name : Bytes) → is_name_text name ≡ true → 0 < length name
+pub some_name : (name : Bytes) → is_name_text name ≡ true → 0 < length name
 some_name [] named = absurd (cc)
 some_name (byte ∷ name) named = omega arith
 
@@ -125,13 +125,13 @@ module _ (map_ : Map) (table : Table) (reads : ReadsAsMeant table) (even : locat
 
 -- ---- lines of operations
 
-record NameParts (name : Bytes) : Type 0 where
-  named : is_name_text (bare_name name) ≡ true
-  other : begins_with_point (bare_name name) ≡ false
-  spaced : list_all is_space (spaces name) ≡ true
-  short : length name ≤ 6
+pub record NameParts (name : Bytes) : Type 0 where
+  pub named : is_name_text (bare_name name) ≡ true
+  pub other : begins_with_point (bare_name name) ≡ false
+  pub spaced : list_all is_space (spaces name) ≡ true
+  pub short : length name ≤ 6
 
-name_parts : (name : Bytes) → is_padded name ≡ true → NameParts name
+pub name_parts : (name : Bytes) → is_padded name ≡ true → NameParts name
 name_parts name padded =
     let ends : Bool = nat_le (length name) 6 in
     let blank : Bool = list_all is_space (spaces name) in
@@ -151,7 +151,7 @@ with_spaces name text =
     ∙ ap (λ n. n ++ 0o40 ∷ text) (bare_parts name)
     ∙ append_assoc (bare_name name) (spaces name) (0o40 ∷ text)
 
-with_operands : (name : Bytes) (operands : Operands) → HasOperands operands
+pub with_operands : (name : Bytes) (operands : Operands) → HasOperands operands
     → statement_text (statements.Named name operands) ≡ bare_name name ++ spaced (spaces name) (operands_text operands)
 with_operands name statements.Nothing there = absurd there
 with_operands name (statements.One a) there = with_spaces name (operands_text (statements.One a))

@@ -43,11 +43,11 @@ abbrev is_blank : Row → Bool
 is_blank row = slice_index row.name 0 == 32
 
 -- P of the row that was found, if one was
-abbrev OfFound : (Row → Type 0) → Option Row → Type 0
+abbrev pub OfFound : (Row → Type 0) → Option Row → Type 0
 OfFound P None = Unit {0}
 OfFound P (Some row) = P row
 
-abbrev IsPadded : Row → Type 0
+abbrev pub IsPadded : Row → Type 0
 IsPadded row = is_padded row.name ≡ true
 
 all_by : (test : Row → Bool) (list : List Row) → list_all test list ≡ true → AllByRecursion (λ row. test row ≡ true) list
@@ -162,11 +162,14 @@ written_by : (row : Option Row) (location word : ℕ) (more : List ℕ) → word
 written_by None location word more within all padded = within
 written_by (Some row) location word more within all padded = (padded, operands_below location more all (instruction_of word))
 
+pub row_padded : (word : ℕ) (more : List ℕ) → OfFound IsPadded (whole_row word more)
+row_padded word more =
+    whole_by (nat_le (words_after (instruction_of word)) (length more)) (row_named word) (named_padded word (row_of word) (row_found word))
+
 pub well_written : (location word : ℕ) (more : List ℕ) → word < 65536 → AreWords more
     → IsWellWritten (statement_of location word more)
 well_written location word more within all =
-    written_by (whole_row word more) location word more within all
-    (whole_by (nat_le (words_after (instruction_of word)) (length more)) (row_named word) (named_padded word (row_of word) (row_found word)))
+    written_by (whole_row word more) location word more within all (row_padded word more)
 
 -- a name is what it has up to its first space, and the rest
 bare_by : (character : ℕ) (characters : Bytes) (b : Bool) → characters ≡ bare_name characters ++ spaces characters

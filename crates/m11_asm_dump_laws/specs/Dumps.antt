@@ -1,7 +1,7 @@
 -- The lines of words that lie one after another, and their assembly. (MACRO-11 Language Reference Manual, ".ASECT directive" and "Current
 -- location counter".)
 use Rattle.std.specs.Prelude.{◌≡◌, ◌*◌, ◌<◌, ℕ, List, [], ◌∷◌, ◌++◌, codes, drop, length, map}
-use Rattle.std.specs.List.{flat_map}
+use Rattle.std.specs.List.{AllByRecursion, flat_map}
 use Rattle.m11_base.specs.Devices.{Bytes}
 use Rattle.m11_base.specs.Names.{absolute_name}
 use Rattle.m11_base_disassembly.specs.Instructions.{location_after, size_of, statement_of}
@@ -40,12 +40,12 @@ pub record AssembleTo (symbols : Map) (table : Table) (lines : List UnfoldedLine
 
 -- ---- a source
 
--- a source that has these lines at an address
+-- the lines of a source that has these lines at an address
 abbrev pub source_at : ℕ → List Bytes → List Bytes
 source_at address texts = codes ".ASECT" ∷ (prefixed (codes ".=") address ∷ texts)
 
--- the lines of a source emit these words at an address of the absolute section and nothing else, and have no flags but those of unfolding
+-- the live lines of a source emit these words at an address of the absolute section and nothing else, and no line has a flag
 pub record AssembleAt (symbols : Map) (lines : List UnfoldedLine) (address : ℕ) (words : List ℕ) : Type 0 where
   pub pieces : flat_map (λ placed. placed.pieces) (placement symbols lines)
       ≡ pieces_from absolute_name address (map fixed_word words)
-  pub flags : map (λ placed. placed.flags) (placement symbols lines) ≡ map (λ given. given.remarks.flags) lines
+  pub unflagged : AllByRecursion (λ placed. placed.flags ≡ 0) (placement symbols lines)
