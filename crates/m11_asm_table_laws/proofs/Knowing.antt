@@ -1,0 +1,172 @@
+-- What a table knows of what has been said, apart from counters and sizes; and one more definition, or one more key doubly defined.
+use Rattle.std.proofs.Common.{◌≡◌, ◌∙◌, ℕ, ◌+◌, ◌-◌, ◌^◌, ◌||◌, min, Bool, true, false, cond, if◌then◌else◌, List, [], ◌∷◌, ◌++◌, Option, Some, count_by, refl, sym, ap, arith}
+use Rattle.std.specs.List.{list_any}
+use Rattle.std.proofs.lemmas.List.Folds.{list_any-append}
+use Rattle.std.proofs.lemmas.List.Sums.{sum_by_push}
+use Rattle.indexmap.specs.IndexSet.{insert_key}
+use Rattle.m11_base.specs.Rad50.{Name, is_same_name}
+use Rattle.m11_base.proofs.SameNames.{same_name_equal}
+use Rattle.m11_asm_rules.specs.Definitions.{Keys, first_definitions, has_key, is_same, last_definition, with_last, with_one}
+use Rattle.m11_asm_rules.specs.declared.definitions.Definition.{Definition}
+use Rattle.m11_asm_rules.specs.declared.definitions.Key.{Key}
+use Rattle.m11_asm_rules.specs.declared.definitions.Key.TheVariants.{Named, Numbered}
+use Rattle.m11_asm_rules.specs.History.{KeyDefinition, defining, last_of}
+use Rattle.m11_asm_rules.specs.Labels.{global_if, one_more, with_block, with_definition, with_doubly_defined}
+use Rattle.m11_asm_rules.specs.Locations.{location_in}
+use Rattle.m11_asm_rules.specs.Tables.{Table, location_of}
+use Rattle.m11_asm_rules.proofs.LastDefinitions.{last_more}
+use Rattle.m11_asm_table_laws.specs.Places.{Place}
+use Rattle.m11_asm_table_laws.specs.Said.{Said, also_defining, begins_block, block, doubly_defining, is_doubly_defined, last_said}
+
+pub record Knows (place : Place) (said : Said) (table : Table) : Type 0 where
+  pub definitions : (key : Key) → last_definition key table.definitions ≡ last_said key said
+  pub doubly_defined : (key : Key) → has_key key table.doubly_defined ≡ is_doubly_defined key said
+  pub sections : table.sections ≡ place.sections
+  pub section : table.modes.section ≡ place.section
+  pub radix : table.modes.radix ≡ place.radix
+  pub block : table.modes.block ≡ block place said
+
+-- and each counter is the one after the moves so far
+pub record Stands (place : Place) (said : Said) (table : Table) : Type 0 where
+  pub knows : Knows place said table
+  pub counters : (section : ℕ) → location_of section table ≡ location_in section said.moves
+
+-- ---- lists of keys and definitions
+
+last_joined : (key : Key) (before : Option Definition) (first second : List KeyDefinition)
+    → last_of key before (first ++ second) ≡ last_of key (last_of key before first) second
+last_joined key before [] second = refl
+last_joined key before (one ∷ first) second = last_joined key (if is_same one.key key then Some one.definition else before) first second
+
+or_itself : (found is_asked : Bool) → (is_asked ≡ true → found ≡ true) → found ≡ (found || is_asked)
+or_itself true is_asked known = refl
+or_itself false true known = known refl
+or_itself false false known = refl
+
+found_by : (is_known is_asked found : Bool) → (is_known ≡ true → is_asked ≡ true → found ≡ true) → (names : List Name) (asked new : Name)
+    → list_any (is_same_name asked) names ≡ found → is_same_name asked new ≡ is_asked
+    → list_any (is_same_name asked) (if is_known then names else names ++ new ∷ []) ≡ (list_any (is_same_name asked) names || is_same_name asked new)
+found_by true is_asked found known names asked new f a =
+    or_itself (list_any (is_same_name asked) names) (is_same_name asked new) (λ e. f ∙ known refl (sym a ∙ e))
+found_by false is_asked found known names asked new f a =
+    list_any-append (is_same_name asked) names (new ∷ []) ∙ ap (λ (b : Bool). list_any (is_same_name asked) names || b) (or_nothing (is_same_name asked new))
+  where
+    or_nothing : (b : Bool) → (b || false) ≡ b
+    or_nothing true = refl
+    or_nothing false = refl
+
+-- a name is in a list with one more name, if it is in the list or is that name
+found_more : (names : List Name) (asked new : Name)
+    → list_any (is_same_name asked) (insert_key is_same_name names new) ≡ (list_any (is_same_name asked) names || is_same_name asked new)
+found_more names asked new =
+    found_by (list_any (is_same_name new) names) (is_same_name asked new) (list_any (is_same_name asked) names)
+    (λ known same. ap (λ (n : Name). list_any (is_same_name n) names) (same_name_equal asked new same) ∙ known) names asked new refl refl
+
+or_false : (b : Bool) → b ≡ (b || false)
+or_false true = refl
+or_false false = refl
+
+key_more : (asked new : Key) (keys : Keys) → has_key asked (with_one new keys) ≡ (has_key asked keys || is_same asked new)
+key_more (Named asked) (Named new) keys = found_more keys.names asked new
+key_more (Named asked) (Numbered block number) keys = or_false (list_any (is_same_name asked) keys.names)
+key_more (Numbered asked_block asked) (Named new) keys = or_false (list_any (is_same_name (asked_block, asked)) keys.local_symbols)
+key_more (Numbered asked_block asked) (Numbered block number) keys = found_more keys.local_symbols (asked_block, asked) (block, number)
+
+or_once : (b c : Bool) → (b || (c || false)) ≡ (b || c)
+or_once true c = refl
+or_once false true = refl
+or_once false false = refl
+
+-- ---- blocks
+
+no_more : (most selections count : ℕ) → min (selections + count) most ≡ min (selections + (count + 0)) most
+no_more most selections count = omega arith
+
+one_block_more : (most selections count : ℕ) → min (min (selections + count) most + 1) most ≡ min (selections + (count + 1)) most
+one_block_more most selections count = omega arith
+
+pub one_selection_more : (most selections count : ℕ) → min (min (selections + count) most + 1) most ≡ min ((selections + 1) + count) most
+one_selection_more most selections count = omega arith
+
+abbrev blocks : List KeyDefinition → ℕ
+blocks definitions = count_by begins_block definitions
+
+module _ (place : Place) (said : Said) (key : Key) (definition : Definition) where
+  abbrev one : KeyDefinition
+  one = defining key definition
+
+  pub same_block : begins_block one ≡ false → block place said ≡ block place (also_defining key definition said)
+  same_block none =
+      no_more (2 ^ 64 - 1) place.selections (blocks said.definitions)
+      ∙ ap (λ (n : ℕ). min (place.selections + n) (2 ^ 64 - 1))
+      (ap (λ (b : Bool). blocks said.definitions + cond b 1 0) (sym none)
+      ∙ sym (sum_by_push (λ (k : KeyDefinition). cond (begins_block k) 1 0) said.definitions one))
+
+  pub next_block : begins_block one ≡ true → one_more (block place said) ≡ block place (also_defining key definition said)
+  next_block begins =
+      one_block_more (2 ^ 64 - 1) place.selections (blocks said.definitions)
+      ∙ ap (λ (n : ℕ). min (place.selections + n) (2 ^ 64 - 1))
+      (ap (λ (b : Bool). blocks said.definitions + cond b 1 0) (sym begins)
+      ∙ sym (sum_by_push (λ (k : KeyDefinition). cond (begins_block k) 1 0) said.definitions one))
+
+-- ---- steps
+
+module _ (place : Place) (said : Said) (table : Table) (knows : Knows place said table) where
+  defines_too : (key asked : Key) (definition : Definition)
+      → last_definition asked (with_last key definition table.definitions) ≡ last_said asked (also_defining key definition said)
+  defines_too key asked definition =
+      last_more asked table.definitions key definition
+      ∙ ap (λ (o : Option Definition). if is_same key asked then Some definition else o) (knows.definitions asked)
+      ∙ sym (last_joined asked (last_definition asked first_definitions) said.definitions (defining key definition ∷ []))
+
+  doubly_too : (key asked : Key) → has_key asked (with_one key table.doubly_defined) ≡ is_doubly_defined asked (doubly_defining key said)
+  doubly_too key asked =
+      key_more asked key table.doubly_defined
+      ∙ ap (λ (b : Bool). b || is_same asked key) (knows.doubly_defined asked)
+      ∙ sym (or_once (is_doubly_defined asked said) (is_same asked key))
+      ∙ sym (list_any-append (is_same asked) said.doubly_defined (key ∷ []))
+
+  pub knows_doubly : (key : Key) → Knows place (doubly_defining key said) (with_doubly_defined key table)
+  knows_doubly key = record {
+    definitions = knows.definitions;
+    doubly_defined = doubly_too key;
+    sections = knows.sections;
+    section = knows.section;
+    radix = knows.radix;
+    block = knows.block;
+  }
+
+  -- a definition that begins no block
+  pub knows_also : (key : Key) (definition : Definition) → begins_block (defining key definition) ≡ false
+      → Knows place (also_defining key definition said) (with_definition key definition table)
+  knows_also key definition none = record {
+    definitions = λ asked. defines_too key asked definition;
+    doubly_defined = knows.doubly_defined;
+    sections = knows.sections;
+    section = knows.section;
+    radix = knows.radix;
+    block = knows.block ∙ same_block place said key definition none;
+  }
+
+  -- a definition that begins a block
+  pub knows_next : (key : Key) (definition : Definition) → begins_block (defining key definition) ≡ true
+      → Knows place (also_defining key definition said) (with_block (with_definition key definition table))
+  knows_next key definition begins = record {
+    definitions = λ asked. defines_too key asked definition;
+    doubly_defined = knows.doubly_defined;
+    sections = knows.sections;
+    section = knows.section;
+    radix = knows.radix;
+    block = ap one_more knows.block ∙ next_block place said key definition begins;
+  }
+
+  pub knows_global : (is_global : Bool) (name : Name) → Knows place said (global_if is_global name table)
+  knows_global true name = record {
+    definitions = knows.definitions;
+    doubly_defined = knows.doubly_defined;
+    sections = knows.sections;
+    section = knows.section;
+    radix = knows.radix;
+    block = knows.block;
+  }
+  knows_global false name = knows

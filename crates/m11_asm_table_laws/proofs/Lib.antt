@@ -1,0 +1,6 @@
+mod Knowing
+mod LabelsRecorded
+mod Selecting
+mod Values
+mod ActionsRecorded
+mod LinesRecorded

@@ -1,0 +1,142 @@
+-- After each line of a source, the table records what the lines so far say.
+use Rattle.std.proofs.Common.{◌≡◌, ◌∙◌, ℕ, List, [], ◌∷◌, ◌++◌, append_assoc, append-nil, reverse, Option, refl, sym, ap, subst}
+use Rattle.std.specs.Prelude.{unwrap_or}
+use Rattle.std.proofs.lemmas.List.{reverse-append, reverse-reverse}
+use Rattle.std.proofs.lemmas.List.Sums.{fold-append}
+use Rattle.m11_base.specs.Names.{blank_name}
+use Rattle.m11_base.specs.Rad50.{Name}
+use Rattle.m11_base.proofs.NameWords.{absolute_words}
+use Rattle.m11_unfold_rules.specs.Unfolding.{UnfoldedLine}
+use Rattle.m11_asm_rules.specs.Definitions.{has_key, no_keys}
+use Rattle.m11_asm_rules.specs.declared.definitions.Key.{Key}
+use Rattle.m11_asm_rules.specs.declared.definitions.Key.TheVariants.{Named, Numbered}
+use Rattle.m11_asm_rules.specs.History.{line_moves, moves_from, moves_of}
+use Rattle.m11_asm_rules.specs.Lines.{after_line, line_change, stands}
+use Rattle.m11_asm_rules.specs.Locations.{SectionMove, location_in, size_in}
+use Rattle.m11_asm_rules.specs.Meanings.{Map}
+use Rattle.m11_asm_rules.specs.Placements.{after_lines, table_after}
+use Rattle.m11_asm_rules.specs.Sections.{of_absolute, of_program, section}
+use Rattle.m11_asm_rules.specs.Tables.{Table, first_table, location_of}
+use Rattle.m11_asm_rules.proofs.History.{says}
+use Rattle.m11_asm_table_laws.specs.Places.{action_in, index_of, name_after, place_after, radix_after, sections_after, selections_in}
+use Rattle.m11_asm_table_laws.specs.Said.{Said, after_labels, is_doubly_defined, move_by, moves_by, nothing_said, said_by}
+use Rattle.m11_asm_table_laws.specs.Tables.{Records}
+use Rattle.m11_asm_table_laws.proofs.ActionsRecorded.{action_known}
+use Rattle.m11_asm_table_laws.proofs.Knowing.{Knows, Stands}
+use Rattle.m11_asm_table_laws.proofs.LabelsRecorded.{labels_moves, labels_stand}
+use Rattle.m11_asm_table_laws.proofs.Values.{moves_same}
+
+-- the table after these lines, the first of which is the last line
+abbrev table_by : Map → List UnfoldedLine → Table
+table_by map before = table_after map (reverse before)
+
+-- ---- one more line
+
+last_line : (before : List UnfoldedLine) (given : UnfoldedLine) → reverse (given ∷ before) ≡ reverse before ++ given ∷ []
+last_line before given = reverse-append (given ∷ []) before
+
+table_more : (map : Map) (before : List UnfoldedLine) (given : UnfoldedLine)
+    → table_by map (given ∷ before) ≡ after_line map (table_by map before) given
+table_more map before given =
+    ap (table_after map) (last_line before given) ∙ fold-append (after_line map) first_table (reverse before) (given ∷ [])
+
+moves_more : (map : Map) (table : Table) (lines : List UnfoldedLine) (given : UnfoldedLine)
+    → moves_from map table (lines ++ given ∷ []) ≡ moves_from map table lines ++ line_moves (after_lines map table lines) given
+moves_more map table [] given = append-nil (line_moves table given)
+moves_more map table (first ∷ lines) given =
+    ap (λ (m : List SectionMove). line_moves table first ++ m) (moves_more map (after_line map table first) lines given)
+    ∙ sym (append_assoc (line_moves table first) (moves_from map (after_line map table first) lines)
+    (line_moves (after_lines map (after_line map table first) lines) given))
+
+-- ---- what is known after the lines so far
+
+pub record KnowsLines (map : Map) (before : List UnfoldedLine) : Type 0 where
+  pub knows : Knows (place_after before) (said_by map before) (table_by map before)
+  pub moves : (said_by map before).moves ≡ moves_of map (reverse before)
+
+none_doubly : (key : Key) → has_key key no_keys ≡ is_doubly_defined key nothing_said
+none_doubly (Named name) = refl
+none_doubly (Numbered block number) = refl
+
+-- the blank section is the second one, since its name isn't that of the absolute section
+blank_second : 1 ≡ index_of blank_name (sections_after [])
+blank_second =
+    ap (λ (o : Option Name). index_of blank_name (section (unwrap_or o (0, 0)) of_absolute ∷ section blank_name of_program ∷ []))
+    (sym absolute_words)
+
+first_knows : (map : Map) → KnowsLines map []
+first_knows map = record {
+  knows = record {
+    definitions = λ key. refl;
+    doubly_defined = none_doubly;
+    sections = refl;
+    section = blank_second;
+    radix = refl;
+    block = refl;
+  };
+  moves = refl;
+}
+
+module _ (map : Map) (before : List UnfoldedLine) (so_far : KnowsLines map before) where
+  pub counters_known : (section : ℕ) → location_of section (table_by map before) ≡ location_in section (said_by map before).moves
+  counters_known section =
+      (says map (reverse before)).counters section ∙ ap (λ (m : List SectionMove). location_in section m) (sym so_far.moves)
+
+  pub so_far_records : Records (place_after before) (said_by map before) (table_by map before)
+  so_far_records = record {
+    says = record {
+      definitions = so_far.knows.definitions;
+      counters = counters_known;
+      sizes = λ section.
+          (says map (reverse before)).sizes section ∙ ap (λ (m : List SectionMove). size_in section m) (sym so_far.moves);
+    };
+    doubly_defined = so_far.knows.doubly_defined;
+    sections = so_far.knows.sections;
+    section = so_far.knows.section;
+    radix = so_far.knows.radix;
+    block = so_far.knows.block;
+  }
+
+  -- what has been said once the labels of a line stand
+  abbrev labels_said : UnfoldedLine → Said
+  labels_said given = after_labels (place_after before) given.live.line.text (said_by map before)
+
+  line_stands : (given : UnfoldedLine) → Stands (place_after before) (labels_said given) (stands (table_by map before) given)
+  line_stands given =
+      labels_stand (place_after before) given.live.line.text (said_by map before) (table_by map before)
+      (record { knows = so_far.knows; counters = counters_known })
+
+  line_moves_known : (given : UnfoldedLine)
+      → line_moves (table_by map before) given
+      ≡ moves_by (place_after before) (move_by (place_after before) (labels_said given) given.live.line.text (action_in given))
+  unfolding line_change action_in
+  line_moves_known given =
+      moves_same (place_after before) (labels_said given) (stands (table_by map before) given) (line_stands given)
+      given.live.line.text (action_in given)
+
+  line_known : (given : UnfoldedLine)
+      → Knows (place_after (given ∷ before)) (said_by map (given ∷ before)) (after_line map (table_by map before) given)
+  unfolding line_change action_in
+  line_known given =
+      action_known map (sections_after before) (name_after before) (radix_after before) (selections_in before) (labels_said given)
+      (stands (table_by map before) given) (line_stands given) given.live.line.text (action_in given)
+
+  one_more_known : (given : UnfoldedLine) → KnowsLines map (given ∷ before)
+  one_more_known given = record {
+    knows = subst (Knows (place_after (given ∷ before)) (said_by map (given ∷ before))) (sym (table_more map before given)) (line_known given);
+    moves =
+        ap (λ (m : List SectionMove). m ++ moves_by (place_after before) (move_by (place_after before) (labels_said given) given.live.line.text (action_in given)))
+        (labels_moves (place_after before) given.live.line.text (said_by map before) ∙ so_far.moves)
+        ∙ ap (λ (m : List SectionMove). moves_of map (reverse before) ++ m) (sym (line_moves_known given))
+        ∙ sym (ap (moves_of map) (last_line before given) ∙ moves_more map first_table (reverse before) given);
+  }
+
+all_known : (map : Map) (before : List UnfoldedLine) → KnowsLines map before
+all_known map [] = first_knows map
+all_known map (given ∷ before) = one_more_known map before (all_known map before) given
+
+pub recorded : (map : Map) (lines : List UnfoldedLine)
+    → Records (place_after (reverse lines)) (said_by map (reverse lines)) (table_after map lines)
+recorded map lines =
+    subst (Records (place_after (reverse lines)) (said_by map (reverse lines))) (ap (table_after map) (reverse-reverse lines))
+    (so_far_records map (reverse lines) (all_known map (reverse lines)))

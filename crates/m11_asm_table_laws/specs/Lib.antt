@@ -1,0 +1,3 @@
+pub mod Places
+pub mod Said
+pub mod Tables
