@@ -1,12 +1,12 @@
 -- After what a line does after its labels, a table knows what has been said.
-use Rattle.std.proofs.Common.{◌≡◌, ◌∙◌, ℕ, ◌+◌, ◌-◌, ◌^◌, ◌&&◌, not, Bool, true, false, if◌then◌else◌, List, length, Some, None, unwrap_or, count_by, refl, sym, ap, subst}
+use Rattle.std.proofs.Common.{◌≡◌, ◌∙◌, ℕ, ◌+◌, ◌&&◌, not, Bool, true, false, if◌then◌else◌, List, ◌++◌, length, Option, Some, None, unwrap_or, refl, sym, ap, subst}
 use Rattle.m11_base.specs.Devices.{Bytes}
 use Rattle.m11_base.specs.Rad50.{Name}
 use Rattle.m11_scan.specs.declared.radix.Radix.{Radix}
 use Rattle.m11_asm_rules.specs.Actions.{Action, Assign, Entitle, Export, Identify, ListExpansions, MoveLevel, NoAction, Operate, Select, SetCounter, SetNumber, SetRadix, Store, Transfer}
 use Rattle.m11_asm_rules.specs.Assigning.{counter_value}
 use Rattle.m11_asm_rules.specs.Assignments as tables
-use Rattle.m11_asm_rules.specs.Changes.{Counts, Keeps, Selects, Sets, changed, numbered, with_new}
+use Rattle.m11_asm_rules.specs.Changes.{Counts, Keeps, Selects, Sets, changed, in_number, numbered, with_globals, with_new}
 use Rattle.m11_asm_rules.specs.Definitions.{is_labelled, is_of_label}
 use Rattle.m11_asm_rules.specs.declared.definitions.Definition.{Definition}
 use Rattle.m11_asm_rules.specs.declared.definitions.Key.TheVariants.{Named}
@@ -24,143 +24,178 @@ use Rattle.m11_asm_rules.specs.Sections.{number_of, section}
 use Rattle.m11_asm_rules.specs.declared.sections.Section.{Section}
 use Rattle.m11_asm_rules.specs.Tables.{Table, firm_table, location}
 use Rattle.m11_asm_rules.specs.declared.modes.Modes.{Modes}
-use Rattle.m11_asm_table_laws.specs.Places.{Place, index_of, name_or, one_more_if, radix_or, selected_by, with_selected}
-use Rattle.m11_asm_table_laws.specs.Said.{Said, after_action, also_defining, assigned, begins_block, by_assignment, doubly_defining, stepping}
-use Rattle.m11_asm_table_laws.proofs.Knowing.{Knows, Stands, knows_also, knows_doubly, knows_global, one_selection_more}
+use Rattle.m11_asm_table_laws.specs.Places.{Place, expansions_set, index_of, lists, name_selected, radix_set, selected_by, selects, unlists, with_selected}
+use Rattle.m11_asm_table_laws.specs.Said.{Assignment, Said, after_action, also_defining, also_exporting, assigned, assigning, assignment_by, begins_block, by_assignment, by_export, doubly_defining, last_said, move_by, moves_by, moving, stepping}
+use Rattle.m11_asm_table_laws.specs.Tables.{modes_at}
+use Rattle.m11_asm_table_laws.proofs.Knowing.{Knows, Stands, counted_more, knows_also, knows_doubly, knows_exporting, knows_moving, knows_name_if, next_selection}
 use Rattle.m11_asm_table_laws.proofs.Selecting.{section_selected, sections_selected}
 use Rattle.m11_asm_table_laws.proofs.Values.{assigned_same}
 
 -- the place with these sections, where the section with this name is the current one
-abbrev pub place_by : List Section → Name → Radix → ℕ → Place
-place_by sections name radix selections =
-    record { sections = sections; section = index_of name sections; radix = radix; selections = selections }
-
--- the moves that have been said are no part of what a table knows
-also_moving : (place : Place) (said : Said) (table : Table) (moves : List SectionMove) → Knows place said table
-    → Knows place (record said { moves = moves }) table
-also_moving place said table moves knows = record {
-  definitions = knows.definitions;
-  doubly_defined = knows.doubly_defined;
-  sections = knows.sections;
-  section = knows.section;
-  radix = knows.radix;
-  block = knows.block;
+abbrev pub place_by : List Section → Name → ℕ → Radix → ℕ → ℕ → Bool → Place
+place_by sections name selections radix listed unlisted shows = record {
+  sections = sections;
+  section = index_of name sections;
+  selections = selections;
+  radix = radix;
+  listed = listed;
+  unlisted = unlisted;
+  shows_expansions = shows;
 }
 
 -- ---- assignments
 
+and_true : (b : Bool) → b ≡ (b && not false)
+and_true true = refl
+and_true false = refl
+
 module _ (place : Place) (said : Said) (table : Table) (knows : Knows place said table) (name : Name) where
   assigned_by : (is_label is_global : Bool) (one other : Definition) → one ≡ other → begins_block (defining (Named name) other) ≡ false
-      → Knows place (if is_label then doubly_defining (Named name) said else also_defining (Named name) other said)
+      → Knows place (if is_label then doubly_defining (Named name) said else also_exporting is_global (Named name) other said)
       (global_if (is_global && not is_label) name
       (if is_label then with_doubly_defined (Named name) table else with_definition (Named name) one table))
-  assigned_by true is_global one other same none =
-      knows_global place (doubly_defining (Named name) said) (with_doubly_defined (Named name) table)
-      (knows_doubly place said table knows (Named name)) (is_global && not true) name
+  assigned_by true true one other same none = knows_doubly place said table knows (Named name)
+  assigned_by true false one other same none = knows_doubly place said table knows (Named name)
   assigned_by false is_global one other same none =
-      let P : Definition → Type 0 = λ d. Knows place (also_defining (Named name) other said)
-      (global_if (is_global && not false) name (with_definition (Named name) d table)) in
-      subst P (sym same)
-      (knows_global place (also_defining (Named name) other said) (with_definition (Named name) other table)
-      (knows_also place said table knows (Named name) other none) (is_global && not false) name)
+      let P : Bool → Definition → Type 0 = λ b d. Knows place (also_exporting is_global (Named name) other said)
+      (global_if b name (with_definition (Named name) d table)) in
+      subst (λ (b : Bool). P b one) (and_true is_global)
+      (subst (λ (d : Definition). P is_global d) (sym same)
+      (knows_name_if place (also_defining (Named name) other said) (with_definition (Named name) other table)
+      (knows_also place said table knows (Named name) other none) is_global name))
 
   assignment_known : (is_global : Bool) (one other : Definition) → one ≡ other → begins_block (defining (Named name) other) ≡ false
-      → Knows place (by_assignment said (Some (defining (Named name) other)))
+      → Knows place (by_assignment said (Some (assigning is_global other name)))
       (global_if (is_global && not (is_labelled (Named name) table.definitions)) name (tables.with_assigned (Named name) one table))
   assignment_known is_global one other same none =
       let P : Bool → Type 0 = λ b. Knows place
-      (if b then doubly_defining (Named name) said else also_defining (Named name) other said)
+      (if b then doubly_defining (Named name) said else also_exporting is_global (Named name) other said)
       (global_if (is_global && not (is_labelled (Named name) table.definitions)) name (tables.with_assigned (Named name) one table)) in
       subst P (ap is_of_label (knows.definitions (Named name)))
       (assigned_by (is_labelled (Named name) table.definitions) is_global one other same none)
 
 -- ---- actions
 
-module _ (map : Map) (sections : List Section) (name : Name) (radix : Radix) (selections : ℕ) (said : Said) (table : Table)
-    (stands : Stands (place_by sections name radix selections) said table) (line : Bytes) where
+module _ (map : Map) (sections : List Section) (name : Name) (selections : ℕ) (radix : Radix) (listed unlisted : ℕ) (shows : Bool)
+    (said : Said) (table : Table) (stands : Stands (place_by sections name selections radix listed unlisted shows) said table)
+    (line : Bytes) where
   abbrev place : Place
-  place = place_by sections name radix selections
+  place = place_by sections name selections radix listed unlisted shows
 
   abbrev knows : Knows place said table
   knows = stands.knows
 
-  moved_known : (move : Move) (moves : List SectionMove) → Knows place (record said { moves = moves }) (changed map (Counts move) table)
+  moved_known : (move : Move) (moves : List SectionMove) → Knows place (moving moves said) (changed map (Counts move) table)
   moved_known move moves = record {
     definitions = knows.definitions;
     doubly_defined = knows.doubly_defined;
+    globals = knows.globals;
     sections = knows.sections;
-    section = knows.section;
-    radix = knows.radix;
-    block = knows.block;
+    modes = knows.modes;
   }
 
   counter_by : (is_here : Bool) (location : ℕ) (moves : List SectionMove)
-      → Knows place (record said { moves = moves }) (changed map (if is_here then Counts (Goes location) else Keeps) table)
+      → Knows place (moving moves said) (changed map (if is_here then Counts (Goes location) else Keeps) table)
   counter_by true location moves = moved_known (Goes location) moves
-  counter_by false location moves = also_moving place said table moves knows
+  counter_by false location moves = knows_moving place said table knows moves
 
-  modes_known : (new : Modes) (new_radix : Radix) (moves : List SectionMove) → new.section ≡ table.modes.section
-      → new.block ≡ table.modes.block → new.radix ≡ new_radix
-      → Knows (place_by sections name new_radix selections) (record said { moves = moves }) (changed map (Sets new) table)
-  modes_known new new_radix moves same_section same_block same_radix = record {
+  -- modes that are set, if they are those at another place with the same sections
+  modes_known : (new : Modes) (next : Place) (moves : List SectionMove) → next.sections ≡ sections → new ≡ modes_at next said
+      → Knows next (moving moves said) (changed map (Sets new) table)
+  modes_known new next moves same_sections same_modes = record {
     definitions = knows.definitions;
     doubly_defined = knows.doubly_defined;
-    sections = knows.sections;
-    section = same_section ∙ knows.section;
-    radix = same_radix;
-    block = same_block ∙ knows.block;
+    globals = knows.globals;
+    sections = knows.sections ∙ sym same_sections;
+    modes = same_modes;
   }
 
   select_known : (selected : Name) (attributes : ℕ) (moves : List SectionMove)
-      → Knows (place_by (with_selected sections (Some (section selected attributes))) selected radix (selections + 1))
-      (record said { moves = moves }) (changed map (Selects selected attributes) table)
-  select_known selected attributes moves = record {
-    definitions = knows.definitions;
-    doubly_defined = knows.doubly_defined;
-    sections = ap (λ (s : List Section). with_new (number_of selected s) (section selected attributes) s) knows.sections
-        ∙ sections_selected selected attributes sections;
-    section = ap (λ (s : List Section). unwrap_or (number_of selected s) (length s)) knows.sections
-        ∙ section_selected selected attributes sections;
-    radix = knows.radix;
-    block = ap one_more knows.block ∙ one_selection_more (2 ^ 64 - 1) selections (count_by begins_block said.definitions);
-  }
+      → Knows
+      (place_by (with_selected sections (Some (section selected attributes))) selected (selections + 1) radix listed unlisted shows)
+      (moving moves said) (changed map (Selects selected attributes) table)
+  select_known selected attributes moves =
+      let number : unwrap_or (number_of selected table.sections) (length table.sections)
+      ≡ index_of selected (with_selected sections (Some (section selected attributes))) =
+      ap (λ (s : List Section). unwrap_or (number_of selected s) (length s)) knows.sections
+      ∙ section_selected selected attributes sections in
+      record {
+        definitions = knows.definitions;
+        doubly_defined = knows.doubly_defined;
+        globals = knows.globals;
+        sections = ap (λ (s : List Section). with_new (number_of selected s) (section selected attributes) s) knows.sections
+            ∙ sections_selected selected attributes sections;
+        modes = ap (λ (m : Modes). in_number (unwrap_or (number_of selected table.sections) (length table.sections)) m) knows.modes
+            ∙ ap (λ (n : ℕ). in_number n (modes_at place said)) number
+            ∙ ap (λ (n : ℕ). record (modes_at place said) { section = index_of selected (with_selected sections (Some (section selected attributes))); block = n })
+            (next_selection place said);
+      }
 
   abbrev after : Action → Place
   after action =
-      place_by (with_selected sections (selected_by action)) (name_or name (selected_by action)) (radix_or radix action)
-      (one_more_if selections (selected_by action))
+      place_by (with_selected sections (selected_by action)) (unwrap_or (name_selected action) name)
+      (if selects action then selections + 1 else selections) (unwrap_or (radix_set action) radix)
+      (if lists action then listed + 1 else listed) (if unlists action then unlisted + 1 else unlisted)
+      (unwrap_or (expansions_set action) shows)
 
   pub action_known : (action : Action)
       → Knows (after action) (after_action map place line action said) (changed map (change_of (firm_table table) line action) table)
-  action_known NoAction = also_moving place said table _ knows
-  action_known (Assign None is_global tokens) = also_moving place said table _ knows
+  action_known NoAction = knows_moving place said table knows _
+  action_known (Assign None is_global tokens) = knows_moving place said table knows _
   action_known (Assign (Some assigned_name) is_global tokens) =
-      also_moving place _ _ _
+      knows_moving place _ _
       (assignment_known place said table knows assigned_name is_global (tables.assigned map table tokens) (assigned map place said tokens)
-      (assigned_same place said table stands map tokens) refl)
+      (assigned_same place said table stands map tokens) refl) _
   action_known (SetNumber assigned_name number) =
-      also_moving place _ _ _
-      (assignment_known place said table knows assigned_name false (numbered number) (numbered number) refl refl)
+      knows_moving place _ _
+      (assignment_known place said table knows assigned_name false (numbered number) (numbered number) refl refl) _
   action_known (SetCounter tokens) =
       counter_by (relocations.is_here (firm_table table) (counter_value (firm_table table) tokens).kind)
       (counter_value (firm_table table) tokens).number _
   action_known (Select selected bits attributes) = select_known selected (with_attributes bits attributes) _
-  action_known (Export is_weak names) = record {
-    definitions = knows.definitions;
-    doubly_defined = knows.doubly_defined;
-    sections = knows.sections;
-    section = knows.section;
-    radix = knows.radix;
-    block = knows.block;
-  }
-  action_known (SetRadix new) = modes_known (record table.modes { radix = new }) new _ refl refl refl
-  action_known (MoveLevel true) = modes_known (record table.modes { listed = one_more table.modes.listed }) radix _ refl refl knows.radix
-  action_known (MoveLevel false) = modes_known (record table.modes { unlisted = one_more table.modes.unlisted }) radix _ refl refl knows.radix
-  action_known (ListExpansions are_listed) = modes_known (record table.modes { shows_expansions = are_listed }) radix _ refl refl knows.radix
+  action_known (Export is_weak names) =
+      knows_moving place _ (with_globals names table) (knows_exporting place said table knows names) _
+  action_known (SetRadix new) =
+      modes_known (record table.modes { radix = new }) (after (SetRadix new)) _ refl
+      (ap (λ (m : Modes). record m { radix = new }) knows.modes)
+  action_known (MoveLevel true) =
+      modes_known (record table.modes { listed = one_more table.modes.listed }) (after (MoveLevel true)) _ refl
+      (ap (λ (m : Modes). record m { listed = one_more m.listed }) knows.modes
+      ∙ ap (λ (n : ℕ). record (modes_at place said) { listed = n }) (counted_more listed))
+  action_known (MoveLevel false) =
+      modes_known (record table.modes { unlisted = one_more table.modes.unlisted }) (after (MoveLevel false)) _ refl
+      (ap (λ (m : Modes). record m { unlisted = one_more m.unlisted }) knows.modes
+      ∙ ap (λ (n : ℕ). record (modes_at place said) { unlisted = n }) (counted_more unlisted))
+  action_known (ListExpansions are_listed) =
+      modes_known (record table.modes { shows_expansions = are_listed }) (after (ListExpansions are_listed)) _ refl
+      (ap (λ (m : Modes). record m { shows_expansions = are_listed }) knows.modes)
   action_known (Store storage) =
       moved_known (stepping (is_even storage) (location (firm_table table)) (λ here. effects.size (firm_table table) here storage)) _
   action_known (Operate operation start) =
       moved_known (stepping true (location (firm_table table)) (λ here. instructions.size (firm_table table) here line start operation)) _
-  action_known (Entitle title) = also_moving place said table _ knows
-  action_known (Identify identification) = also_moving place said table _ knows
-  action_known (Transfer tokens) = also_moving place said table _ knows
+  action_known (Entitle title) = knows_moving place said table knows _
+  action_known (Identify identification) = knows_moving place said table knows _
+  action_known (Transfer tokens) = knows_moving place said table knows _
+
+-- ---- only the move of an action is added to the moves
+
+made_moves : (is_label : Bool) (said : Said) (made : Assignment)
+    → (if is_label then doubly_defining (Named made.name) said else also_exporting made.is_global (Named made.name) made.definition said).moves
+    ≡ said.moves
+made_moves true said made = refl
+made_moves false said made = refl
+
+assignment_moves : (said : Said) (made : Option Assignment) → (by_assignment said made).moves ≡ said.moves
+assignment_moves said None = refl
+assignment_moves said (Some made) = made_moves (is_of_label (last_said (Named made.name) said)) said made
+
+export_moves : (said : Said) (action : Action) → (by_export said action).moves ≡ said.moves
+export_moves said (Export is_weak names) = refl
+export_moves said other = refl
+
+pub action_moves : (map : Map) (place : Place) (line : Bytes) (action : Action) (said : Said)
+    → (after_action map place line action said).moves ≡ said.moves ++ moves_by place (move_by place said line action)
+action_moves map place line action said =
+    ap (λ (m : List SectionMove). m ++ moves_by place (move_by place said line action))
+    (export_moves (by_assignment said (assignment_by map place said action)) action
+    ∙ assignment_moves said (assignment_by map place said action))

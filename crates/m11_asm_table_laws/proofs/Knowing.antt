@@ -1,30 +1,32 @@
 -- What a table knows of what has been said, apart from counters and sizes; and one more definition, or one more key doubly defined.
-use Rattle.std.proofs.Common.{◌≡◌, ◌∙◌, ℕ, ◌+◌, ◌-◌, ◌^◌, ◌||◌, min, Bool, true, false, cond, if◌then◌else◌, List, [], ◌∷◌, ◌++◌, Option, Some, count_by, refl, sym, ap, arith}
+use Rattle.std.proofs.Common.{◌≡◌, ◌∙◌, ℕ, ◌+◌, ◌-◌, ◌^◌, ◌||◌, min, Bool, true, false, cond, if◌then◌else◌, List, [], ◌∷◌, ◌++◌, append-nil, Option, Some, count_by, refl, sym, ap, subst, arith}
 use Rattle.std.specs.List.{list_any}
 use Rattle.std.proofs.lemmas.List.Folds.{list_any-append}
-use Rattle.std.proofs.lemmas.List.Sums.{sum_by_push}
-use Rattle.indexmap.specs.IndexSet.{insert_key}
+use Rattle.std.proofs.lemmas.List.Sums.{fold-append, sum_by_push}
+use Rattle.indexmap.specs.IndexSet.{insert_all, insert_key}
 use Rattle.m11_base.specs.Rad50.{Name, is_same_name}
 use Rattle.m11_base.proofs.SameNames.{same_name_equal}
 use Rattle.m11_asm_rules.specs.Definitions.{Keys, first_definitions, has_key, is_same, last_definition, with_last, with_one}
 use Rattle.m11_asm_rules.specs.declared.definitions.Definition.{Definition}
 use Rattle.m11_asm_rules.specs.declared.definitions.Key.{Key}
 use Rattle.m11_asm_rules.specs.declared.definitions.Key.TheVariants.{Named, Numbered}
+use Rattle.m11_asm_rules.specs.Changes.{with_globals}
 use Rattle.m11_asm_rules.specs.History.{KeyDefinition, defining, last_of}
 use Rattle.m11_asm_rules.specs.Labels.{global_if, one_more, with_block, with_definition, with_doubly_defined}
-use Rattle.m11_asm_rules.specs.Locations.{location_in}
+use Rattle.m11_asm_rules.specs.Locations.{SectionMove, location_in}
 use Rattle.m11_asm_rules.specs.Tables.{Table, location_of}
 use Rattle.m11_asm_rules.proofs.LastDefinitions.{last_more}
 use Rattle.m11_asm_table_laws.specs.Places.{Place}
-use Rattle.m11_asm_table_laws.specs.Said.{Said, also_defining, begins_block, block, doubly_defining, is_doubly_defined, last_said}
+use Rattle.m11_asm_table_laws.specs.Said.{Said, also_defining, begins_block, block, counted, doubly_defining, exporting, is_doubly_defined, last_said, moving, name_if}
+use Rattle.m11_asm_table_laws.specs.Tables.{modes_at}
+use Rattle.m11_asm_rules.specs.declared.modes.Modes.{Modes}
 
 pub record Knows (place : Place) (said : Said) (table : Table) : Type 0 where
   pub definitions : (key : Key) → last_definition key table.definitions ≡ last_said key said
   pub doubly_defined : (key : Key) → has_key key table.doubly_defined ≡ is_doubly_defined key said
+  pub globals : table.globals ≡ insert_all is_same_name [] said.globals
   pub sections : table.sections ≡ place.sections
-  pub section : table.modes.section ≡ place.section
-  pub radix : table.modes.radix ≡ place.radix
-  pub block : table.modes.block ≡ block place said
+  pub modes : table.modes ≡ modes_at place said
 
 -- and each counter is the one after the moves so far
 pub record Stands (place : Place) (said : Said) (table : Table) : Type 0 where
@@ -77,41 +79,67 @@ or_once true c = refl
 or_once false true = refl
 or_once false false = refl
 
--- ---- blocks
+-- ---- counts
 
-no_more : (most selections count : ℕ) → min (selections + count) most ≡ min (selections + (count + 0)) most
-no_more most selections count = omega arith
+no_more : (most count : ℕ) → min count most ≡ min (count + 0) most
+no_more most count = omega arith
 
-one_block_more : (most selections count : ℕ) → min (min (selections + count) most + 1) most ≡ min (selections + (count + 1)) most
-one_block_more most selections count = omega arith
+one_more_counted : (most count : ℕ) → min (min count most + 1) most ≡ min (count + 1) most
+one_more_counted most count = omega arith
 
-pub one_selection_more : (most selections count : ℕ) → min (min (selections + count) most + 1) most ≡ min ((selections + 1) + count) most
-one_selection_more most selections count = omega arith
+joined : (most selections count : ℕ) → min ((selections + count) + 1) most ≡ min (selections + (count + 1)) most
+joined most selections count = omega arith
+
+same_joined : (most selections count : ℕ) → min (selections + count) most ≡ min (selections + (count + 0)) most
+same_joined most selections count = omega arith
+
+selected : (most selections count : ℕ) → min ((selections + count) + 1) most ≡ min ((selections + 1) + count) most
+selected most selections count = omega arith
+
+pub counted_more : (count : ℕ) → one_more (counted count) ≡ counted (count + 1)
+counted_more count = one_more_counted (2 ^ 64 - 1) count
 
 abbrev blocks : List KeyDefinition → ℕ
 blocks definitions = count_by begins_block definitions
+
+pub next_selection : (place : Place) (said : Said)
+    → one_more (block place said) ≡ counted ((place.selections + 1) + blocks said.definitions)
+next_selection place said =
+    counted_more (place.selections + blocks said.definitions)
+    ∙ selected (2 ^ 64 - 1) place.selections (blocks said.definitions)
 
 module _ (place : Place) (said : Said) (key : Key) (definition : Definition) where
   abbrev one : KeyDefinition
   one = defining key definition
 
-  pub same_block : begins_block one ≡ false → block place said ≡ block place (also_defining key definition said)
-  same_block none =
-      no_more (2 ^ 64 - 1) place.selections (blocks said.definitions)
-      ∙ ap (λ (n : ℕ). min (place.selections + n) (2 ^ 64 - 1))
-      (ap (λ (b : Bool). blocks said.definitions + cond b 1 0) (sym none)
-      ∙ sym (sum_by_push (λ (k : KeyDefinition). cond (begins_block k) 1 0) said.definitions one))
+  begun : (begins : Bool) → begins_block one ≡ begins → blocks said.definitions + cond begins 1 0 ≡ blocks (said.definitions ++ one ∷ [])
+  begun begins same =
+      ap (λ (b : Bool). blocks said.definitions + cond b 1 0) (sym same)
+      ∙ sym (sum_by_push (λ (k : KeyDefinition). cond (begins_block k) 1 0) said.definitions one)
 
-  pub next_block : begins_block one ≡ true → one_more (block place said) ≡ block place (also_defining key definition said)
+  same_block : begins_block one ≡ false → block place said ≡ block place (also_defining key definition said)
+  same_block none =
+      same_joined (2 ^ 64 - 1) place.selections (blocks said.definitions)
+      ∙ ap (λ (n : ℕ). counted (place.selections + n)) (begun false none)
+
+  next_block : begins_block one ≡ true → one_more (block place said) ≡ block place (also_defining key definition said)
   next_block begins =
-      one_block_more (2 ^ 64 - 1) place.selections (blocks said.definitions)
-      ∙ ap (λ (n : ℕ). min (place.selections + n) (2 ^ 64 - 1))
-      (ap (λ (b : Bool). blocks said.definitions + cond b 1 0) (sym begins)
-      ∙ sym (sum_by_push (λ (k : KeyDefinition). cond (begins_block k) 1 0) said.definitions one))
+      counted_more (place.selections + blocks said.definitions)
+      ∙ joined (2 ^ 64 - 1) place.selections (blocks said.definitions)
+      ∙ ap (λ (n : ℕ). counted (place.selections + n)) (begun true begins)
 
 -- ---- steps
 
 module _ (place : Place) (said : Said) (table : Table) (knows : Knows place said table) where
+  pub section_known : table.modes.section ≡ place.section
+  section_known = ap (λ (m : Modes). m.section) knows.modes
+
+  pub block_known : table.modes.block ≡ block place said
+  block_known = ap (λ (m : Modes). m.block) knows.modes
+
+  pub radix_known : table.modes.radix ≡ place.radix
+  radix_known = ap (λ (m : Modes). m.radix) knows.modes
+
   defines_too : (key asked : Key) (definition : Definition)
       → last_definition asked (with_last key definition table.definitions) ≡ last_said asked (also_defining key definition said)
   defines_too key asked definition =
@@ -130,10 +158,9 @@ module _ (place : Place) (said : Said) (table : Table) (knows : Knows place said
   knows_doubly key = record {
     definitions = knows.definitions;
     doubly_defined = doubly_too key;
+    globals = knows.globals;
     sections = knows.sections;
-    section = knows.section;
-    radix = knows.radix;
-    block = knows.block;
+    modes = knows.modes;
   }
 
   -- a definition that begins no block
@@ -142,10 +169,9 @@ module _ (place : Place) (said : Said) (table : Table) (knows : Knows place said
   knows_also key definition none = record {
     definitions = λ asked. defines_too key asked definition;
     doubly_defined = knows.doubly_defined;
+    globals = knows.globals;
     sections = knows.sections;
-    section = knows.section;
-    radix = knows.radix;
-    block = knows.block ∙ same_block place said key definition none;
+    modes = knows.modes ∙ ap (λ (n : ℕ). record (modes_at place said) { block = n }) (same_block place said key definition none);
   }
 
   -- a definition that begins a block
@@ -154,19 +180,38 @@ module _ (place : Place) (said : Said) (table : Table) (knows : Knows place said
   knows_next key definition begins = record {
     definitions = λ asked. defines_too key asked definition;
     doubly_defined = knows.doubly_defined;
+    globals = knows.globals;
     sections = knows.sections;
-    section = knows.section;
-    radix = knows.radix;
-    block = ap one_more knows.block ∙ next_block place said key definition begins;
+    modes = ap (λ (m : Modes). record m { block = one_more m.block }) knows.modes
+        ∙ ap (λ (n : ℕ). record (modes_at place said) { block = n }) (next_block place said key definition begins);
   }
 
-  pub knows_global : (is_global : Bool) (name : Name) → Knows place said (global_if is_global name table)
-  knows_global true name = record {
+  pub knows_exporting : (names : List Name) → Knows place (exporting names said) (with_globals names table)
+  knows_exporting names = record {
     definitions = knows.definitions;
     doubly_defined = knows.doubly_defined;
+    globals = ap (λ (known : List Name). insert_all is_same_name known names) knows.globals
+        ∙ sym (fold-append (insert_key is_same_name) [] said.globals names);
     sections = knows.sections;
-    section = knows.section;
-    radix = knows.radix;
-    block = knows.block;
+    modes = knows.modes;
   }
-  knows_global false name = knows
+
+  -- the moves of the counters are no part of what a table knows so
+  pub knows_moving : (moves : List SectionMove) → Knows place (moving moves said) table
+  knows_moving moves = record {
+    definitions = knows.definitions;
+    doubly_defined = knows.doubly_defined;
+    globals = knows.globals;
+    sections = knows.sections;
+    modes = knows.modes;
+  }
+
+pub knows_no_names : (place : Place) (said : Said) (table : Table) → Knows place said table → Knows place (exporting [] said) table
+knows_no_names place said table knows =
+    let P : List Name → Type 0 = λ names. Knows place (record said { globals = names }) table in
+    subst P (sym (append-nil said.globals)) knows
+
+pub knows_name_if : (place : Place) (said : Said) (table : Table) → Knows place said table → (is_global : Bool) (name : Name)
+    → Knows place (exporting (name_if is_global (Named name)) said) (global_if is_global name table)
+knows_name_if place said table knows true name = knows_exporting place said table knows (name ∷ [])
+knows_name_if place said table knows false name = knows_no_names place said table knows

@@ -19,8 +19,8 @@ use Rattle.m11_asm_rules.specs.declared.sections.Section.{Section}
 use Rattle.m11_asm_rules.specs.Tables as tables_before
 use Rattle.m11_asm_rules.specs.Tables.{Table, location_of}
 use Rattle.m11_asm_table_laws.specs.Places.{Place}
-use Rattle.m11_asm_table_laws.specs.Said.{Said, after_labels, also_defining, block, by_label, doubly_defining, kind_here, label_key, labelled, last_said, location, with_label}
-use Rattle.m11_asm_table_laws.proofs.Knowing.{Knows, Stands, knows_also, knows_doubly, knows_global, knows_next}
+use Rattle.m11_asm_table_laws.specs.Said.{Said, after_labels, also_defining, also_exporting, block, by_label, doubly_defining, is_global_label, kind_here, label_key, labelled, last_said, location, with_label}
+use Rattle.m11_asm_table_laws.proofs.Knowing.{Knows, Stands, knows_also, block_known, knows_doubly, knows_name_if, knows_next, knows_no_names, section_known}
 
 -- ---- the section and the location of a line
 
@@ -29,16 +29,16 @@ module _ (place : Place) (said : Said) (table : Table) (stands : Stands place sa
   knows = stands.knows
 
   pub location_same : tables_before.location table ≡ location place said
-  location_same = stands.counters table.modes.section ∙ ap (λ (n : ℕ). location_in n said.moves) knows.section
+  location_same = stands.counters table.modes.section ∙ ap (λ (n : ℕ). location_in n said.moves) (section_known place said table knows)
 
   pub kind_same : tables_before.kind_here table ≡ kind_here place
   kind_same =
-      ap (λ (n : ℕ). location_kind n table.sections) knows.section
+      ap (λ (n : ℕ). location_kind n table.sections) (section_known place said table knows)
       ∙ ap (λ (s : List Section). location_kind place.section s) knows.sections
 
   pub section_same : numbered table.modes.section table.sections ≡ numbered place.section place.sections
   section_same =
-      ap (λ (n : ℕ). numbered n table.sections) knows.section
+      ap (λ (n : ℕ). numbered n table.sections) (section_known place said table knows)
       ∙ ap (λ (s : List Section). numbered place.section s) knows.sections
 
   label_same : tables.labelled table ≡ labelled place said
@@ -48,55 +48,58 @@ module _ (place : Place) (said : Said) (table : Table) (stands : Stands place sa
       ∙ ap (λ (s : Section). record { standing = Known (location place said) (kind_here place); is_firm = true; label = Some s.name }) section_same
 
   name_by : (is_there is_global : Bool) (name : Name) (definition : Definition) → definition ≡ labelled place said
-      → Knows place (if is_there then doubly_defining (Named name) said else also_defining (Named name) (labelled place said) said)
+      → Knows place (if is_there then doubly_defining (Named name) said else also_exporting is_global (Named name) (labelled place said) said)
       (if is_there then tables.with_doubly_defined (Named name) table
       else tables.global_if is_global name (tables.with_block (tables.with_definition (Named name) definition table)))
   name_by true is_global name definition same = knows_doubly place said table knows (Named name)
   name_by false is_global name definition same =
-      let P : Definition → Type 0 = λ d. Knows place (also_defining (Named name) (labelled place said) said)
+      let P : Definition → Type 0 = λ d. Knows place (also_exporting is_global (Named name) (labelled place said) said)
       (tables.global_if is_global name (tables.with_block (tables.with_definition (Named name) d table))) in
       subst P (sym same)
-      (knows_global place (also_defining (Named name) (labelled place said) said)
+      (knows_name_if place (also_defining (Named name) (labelled place said) said)
       (tables.with_block (tables.with_definition (Named name) (labelled place said) table))
       (knows_next place said table knows (Named name) (labelled place said) refl) is_global name)
 
   name_known : (is_global : Bool) (name : Option Name)
-      → Knows place (by_label (labelled place said) said (option_map Named name)) (tables.with_name is_global table name)
+      → Knows place (by_label is_global (labelled place said) said (option_map Named name)) (tables.with_name is_global table name)
   name_known is_global None = knows
   name_known is_global (Some name) =
       let P : Bool → Type 0 = λ b. Knows place
-      (if b then doubly_defining (Named name) said else also_defining (Named name) (labelled place said) said)
+      (if b then doubly_defining (Named name) said else also_exporting is_global (Named name) (labelled place said) said)
       (tables.with_name is_global table (Some name)) in
       subst P (ap is_some (knows.definitions (Named name)))
       (name_by (is_defined (Named name) table.definitions) is_global name (tables.labelled table) label_same)
 
   symbol_by : (is_there : Bool) (number : ℕ) (block : ℕ) (definition : Definition) → definition ≡ labelled place said
-      → Knows place (if is_there then doubly_defining (Numbered block number) said else also_defining (Numbered block number) (labelled place said) said)
+      → Knows place (if is_there then doubly_defining (Numbered block number) said else also_exporting false (Numbered block number) (labelled place said) said)
       (if is_there then tables.with_doubly_defined (Numbered block number) table
       else tables.with_definition (Numbered block number) definition table)
   symbol_by true number block definition same = knows_doubly place said table knows (Numbered block number)
   symbol_by false number block definition same =
-      let P : Definition → Type 0 = λ d. Knows place (also_defining (Numbered block number) (labelled place said) said)
+      let P : Definition → Type 0 = λ d. Knows place (also_exporting false (Numbered block number) (labelled place said) said)
       (tables.with_definition (Numbered block number) d table) in
-      subst P (sym same) (knows_also place said table knows (Numbered block number) (labelled place said) refl)
+      subst P (sym same)
+      (knows_no_names place (also_defining (Numbered block number) (labelled place said) said)
+      (tables.with_definition (Numbered block number) (labelled place said) table)
+      (knows_also place said table knows (Numbered block number) (labelled place said) refl))
 
   symbol_known : (number block : ℕ)
-      → Knows place (by_label (labelled place said) said (Some (Numbered block number))) (tables.with_key (Numbered block number) table)
+      → Knows place (by_label false (labelled place said) said (Some (Numbered block number))) (tables.with_key (Numbered block number) table)
   symbol_known number block =
       let P : Bool → Type 0 = λ b. Knows place
-      (if b then doubly_defining (Numbered block number) said else also_defining (Numbered block number) (labelled place said) said)
+      (if b then doubly_defining (Numbered block number) said else also_exporting false (Numbered block number) (labelled place said) said)
       (tables.with_key (Numbered block number) table) in
       subst P (ap is_some (knows.definitions (Numbered block number)))
       (symbol_by (is_defined (Numbered block number) table.definitions) number block (tables.labelled table) label_same)
 
   kind_known : (name : Option Name) (kind : LabelKind)
-      → Knows place (by_label (labelled place said) said (label_key (block place said) name kind)) (tables.with_kind table name kind)
+      → Knows place (by_label (is_global_label kind) (labelled place said) said (label_key (block place said) name kind)) (tables.with_kind table name kind)
   kind_known name label.Ordinary = name_known false name
   kind_known name label.Global = name_known true name
   kind_known name (label.Local number) =
-      let P : ℕ → Type 0 = λ n. Knows place (by_label (labelled place said) said (Some (Numbered (block place said) number)))
+      let P : ℕ → Type 0 = λ n. Knows place (by_label false (labelled place said) said (Some (Numbered (block place said) number)))
       (tables.with_key (Numbered n number) table) in
-      subst P (sym knows.block) (symbol_known number (block place said))
+      subst P (sym (block_known place said table knows)) (symbol_known number (block place said))
   kind_known name label.Outside = knows
 
 -- ---- labels move no counter
@@ -126,14 +129,15 @@ kind_counters table name (label.Local number) =
     symbol_counters (is_defined (Numbered table.modes.block number) table.definitions) (Numbered table.modes.block number) table
 kind_counters table name label.Outside = refl
 
-moves_by : (is_there : Bool) (definition : Definition) (said : Said) (key : Key)
-    → (if is_there then doubly_defining key said else also_defining key definition said).moves ≡ said.moves
-moves_by true definition said key = refl
-moves_by false definition said key = refl
+moves_by : (is_there is_global : Bool) (definition : Definition) (said : Said) (key : Key)
+    → (if is_there then doubly_defining key said else also_exporting is_global key definition said).moves ≡ said.moves
+moves_by true is_global definition said key = refl
+moves_by false is_global definition said key = refl
 
-label_moves : (definition : Definition) (said : Said) (key : Option Key) → (by_label definition said key).moves ≡ said.moves
-label_moves definition said None = refl
-label_moves definition said (Some key) = moves_by (is_some (last_said key said)) definition said key
+label_moves : (is_global : Bool) (definition : Definition) (said : Said) (key : Option Key)
+    → (by_label is_global definition said key).moves ≡ said.moves
+label_moves is_global definition said None = refl
+label_moves is_global definition said (Some key) = moves_by (is_some (last_said key said)) is_global definition said key
 
 -- ---- all labels of a line
 
@@ -145,7 +149,7 @@ label_stands place line said table named stands = record {
       ap (λ (l : List ℕ). get_or l section 0) (kind_counters table (tables.label_name line named) named.kind)
       ∙ stands.counters section
       ∙ ap (λ (m : List SectionMove). location_in section m)
-      (sym (label_moves (labelled place said) said (label_key (block place said) (tables.label_name line named) named.kind)));
+      (sym (label_moves (is_global_label named.kind) (labelled place said) said (label_key (block place said) (tables.label_name line named) named.kind)));
 }
 
 all_stand : (place : Place) (line : Bytes) (said : Said) (table : Table) (labels : List Label) → Stands place said table
@@ -164,7 +168,7 @@ all_moves : (place : Place) (line : Bytes) (said : Said) (labels : List Label)
 all_moves place line said [] = refl
 all_moves place line said (named ∷ labels) =
     all_moves place line (with_label place line said named) labels
-    ∙ label_moves (labelled place said) said (label_key (block place said) (tables.label_name line named) named.kind)
+    ∙ label_moves (is_global_label named.kind) (labelled place said) said (label_key (block place said) (tables.label_name line named) named.kind)
 
 pub labels_moves : (place : Place) (line : Bytes) (said : Said) → (after_labels place line said).moves ≡ said.moves
 labels_moves place line said = all_moves place line said (labels_at line)

@@ -1,8 +1,9 @@
 -- After each line of a source, the table records what the lines so far say.
-use Rattle.std.proofs.Common.{◌≡◌, ◌∙◌, ℕ, List, [], ◌∷◌, ◌++◌, append_assoc, append-nil, reverse, Option, refl, sym, ap, subst}
+use Rattle.std.proofs.Common.{◌≡◌, ◌∙◌, ℕ, false, List, [], ◌∷◌, ◌++◌, append_assoc, append-nil, reverse, Option, refl, sym, ap, subst}
 use Rattle.std.specs.Prelude.{unwrap_or}
 use Rattle.std.proofs.lemmas.List.{reverse-append, reverse-reverse}
 use Rattle.std.proofs.lemmas.List.Sums.{fold-append}
+use Rattle.m11_scan.specs.declared.radix.Radix.TheVariants.{Octal}
 use Rattle.m11_base.specs.Names.{blank_name}
 use Rattle.m11_base.specs.Rad50.{Name}
 use Rattle.m11_base.proofs.NameWords.{absolute_words}
@@ -16,12 +17,12 @@ use Rattle.m11_asm_rules.specs.Locations.{SectionMove, location_in, size_in}
 use Rattle.m11_asm_rules.specs.Meanings.{Map}
 use Rattle.m11_asm_rules.specs.Placements.{after_lines, table_after}
 use Rattle.m11_asm_rules.specs.Sections.{of_absolute, of_program, section}
-use Rattle.m11_asm_rules.specs.Tables.{Table, first_table, location_of}
+use Rattle.m11_asm_rules.specs.Tables.{Table, first_modes, first_table, location_of}
 use Rattle.m11_asm_rules.proofs.History.{says}
-use Rattle.m11_asm_table_laws.specs.Places.{action_in, index_of, name_after, place_after, radix_after, sections_after, selections_in}
+use Rattle.m11_asm_table_laws.specs.Places.{action_in, expansions_set, how_many, index_of, last_set, lists, name_selected, place_after, radix_set, sections_after, selects, unlists}
 use Rattle.m11_asm_table_laws.specs.Said.{Said, after_labels, is_doubly_defined, move_by, moves_by, nothing_said, said_by}
 use Rattle.m11_asm_table_laws.specs.Tables.{Records}
-use Rattle.m11_asm_table_laws.proofs.ActionsRecorded.{action_known}
+use Rattle.m11_asm_table_laws.proofs.ActionsRecorded.{action_known, action_moves}
 use Rattle.m11_asm_table_laws.proofs.Knowing.{Knows, Stands}
 use Rattle.m11_asm_table_laws.proofs.LabelsRecorded.{labels_moves, labels_stand}
 use Rattle.m11_asm_table_laws.proofs.Values.{moves_same}
@@ -69,10 +70,9 @@ first_knows map = record {
   knows = record {
     definitions = λ key. refl;
     doubly_defined = none_doubly;
+    globals = refl;
     sections = refl;
-    section = blank_second;
-    radix = refl;
-    block = refl;
+    modes = ap (λ (n : ℕ). record first_modes { section = n }) blank_second;
   };
   moves = refl;
 }
@@ -91,10 +91,9 @@ module _ (map : Map) (before : List UnfoldedLine) (so_far : KnowsLines map befor
           (says map (reverse before)).sizes section ∙ ap (λ (m : List SectionMove). size_in section m) (sym so_far.moves);
     };
     doubly_defined = so_far.knows.doubly_defined;
+    globals = so_far.knows.globals;
     sections = so_far.knows.sections;
-    section = so_far.knows.section;
-    radix = so_far.knows.radix;
-    block = so_far.knows.block;
+    modes = so_far.knows.modes;
   }
 
   -- what has been said once the labels of a line stand
@@ -118,14 +117,16 @@ module _ (map : Map) (before : List UnfoldedLine) (so_far : KnowsLines map befor
       → Knows (place_after (given ∷ before)) (said_by map (given ∷ before)) (after_line map (table_by map before) given)
   unfolding line_change action_in
   line_known given =
-      action_known map (sections_after before) (name_after before) (radix_after before) (selections_in before) (labels_said given)
-      (stands (table_by map before) given) (line_stands given) given.live.line.text (action_in given)
+      action_known map (sections_after before) (last_set name_selected blank_name before) (how_many selects before)
+      (last_set radix_set Octal before) (how_many lists before) (how_many unlists before) (last_set expansions_set false before)
+      (labels_said given) (stands (table_by map before) given) (line_stands given) given.live.line.text (action_in given)
 
   one_more_known : (given : UnfoldedLine) → KnowsLines map (given ∷ before)
   one_more_known given = record {
     knows = subst (Knows (place_after (given ∷ before)) (said_by map (given ∷ before))) (sym (table_more map before given)) (line_known given);
     moves =
-        ap (λ (m : List SectionMove). m ++ moves_by (place_after before) (move_by (place_after before) (labels_said given) given.live.line.text (action_in given)))
+        action_moves map (place_after before) given.live.line.text (action_in given) (labels_said given)
+        ∙ ap (λ (m : List SectionMove). m ++ moves_by (place_after before) (move_by (place_after before) (labels_said given) given.live.line.text (action_in given)))
         (labels_moves (place_after before) given.live.line.text (said_by map before) ∙ so_far.moves)
         ∙ ap (λ (m : List SectionMove). moves_of map (reverse before) ++ m) (sym (line_moves_known given))
         ∙ sym (ap (moves_of map) (last_line before given) ∙ moves_more map first_table (reverse before) given);

@@ -39,7 +39,7 @@ use Rattle.m11_asm_rules.specs.Tables.{Table, firm_table}
 use Rattle.m11_asm_rules.proofs.NamesByMaps.{firm_option, last_firm}
 use Rattle.m11_asm_table_laws.specs.Places.{Place}
 use Rattle.m11_asm_table_laws.specs.Said.{Said, assigned, block, firm, firm_meaning, given_by, is_doubly_defined, is_firm, is_here, known, last_said, location, meaning, move_by, moves_by, size, stepping, symbol_value, unknown}
-use Rattle.m11_asm_table_laws.proofs.Knowing.{Stands}
+use Rattle.m11_asm_table_laws.proofs.Knowing.{Stands, block_known, radix_known, section_known}
 use Rattle.m11_asm_table_laws.proofs.LabelsRecorded.{kind_same, location_same, section_same}
 
 equal_functions : {A B : Type 0} {f g : A → B} → ((a : A) → f a ≡ g a) → f ≡ g
@@ -100,7 +100,7 @@ module _ (place : Place) (said : Said) (table : Table) (stands : Stands place sa
   symbol_same map here (symbol.Ordinary name) = meaning_same map (Named name)
   symbol_same map here (symbol.Local number) =
       meaning_same map (Numbered table.modes.block number)
-      ∙ ap (λ (n : ℕ). meaning map said (Numbered n number)) stands.knows.block
+      ∙ ap (λ (n : ℕ). meaning map said (Numbered n number)) (block_known place said table stands.knows)
   symbol_same map here symbol.Counter =
       ap (λ (k : Kind). record { number = here; kind = k; flags = 0 }) (kind_same place said table stands)
 
@@ -109,18 +109,18 @@ module _ (place : Place) (said : Said) (table : Table) (stands : Stands place sa
   firm_symbol_same here (symbol.Ordinary name) = firm_meaning_same (Named name)
   firm_symbol_same here (symbol.Local number) =
       firm_meaning_same (Numbered table.modes.block number)
-      ∙ ap (λ (n : ℕ). firm_meaning said (Numbered n number)) stands.knows.block
+      ∙ ap (λ (n : ℕ). firm_meaning said (Numbered n number)) (block_known place said table stands.knows)
   firm_symbol_same here symbol.Counter =
       ap (λ (k : Kind). record { number = here; kind = k; flags = 0 }) (kind_same place said table stands)
 
   known_same : (map : Map) (here : ℕ) → known_at map LocalOnly table here ≡ known place said here (meaning map said)
   known_same map here =
-      ap (λ (r : Radix). known_by r (value_of_symbol map LocalOnly table here)) stands.knows.radix
+      ap (λ (r : Radix). known_by r (value_of_symbol map LocalOnly table here)) (radix_known place said table stands.knows)
       ∙ ap (known_by place.radix) (equal_functions (symbol_same map here))
 
   firm_same : (here : ℕ) → known_at empty_map LocalOnly twice here ≡ firm place said here
   firm_same here =
-      ap (λ (r : Radix). known_by r (value_of_symbol empty_map LocalOnly twice here)) stands.knows.radix
+      ap (λ (r : Radix). known_by r (value_of_symbol empty_map LocalOnly twice here)) (radix_known place said table stands.knows)
       ∙ ap (known_by place.radix) (equal_functions (firm_symbol_same here))
 
   -- ---- assignments
@@ -129,7 +129,7 @@ module _ (place : Place) (said : Said) (table : Table) (stands : Stands place sa
   is_firm_same (symbol.Ordinary name) = ap is_firm_in (stands.knows.definitions (Named name))
   is_firm_same (symbol.Local number) =
       ap is_firm_in (stands.knows.definitions (Numbered table.modes.block number))
-      ∙ ap (λ (n : ℕ). is_firm_in (last_said (Numbered n number) said)) stands.knows.block
+      ∙ ap (λ (n : ℕ). is_firm_in (last_said (Numbered n number) said)) (block_known place said table stands.knows)
   is_firm_same symbol.Counter = refl
 
   abbrev assigning : KnownSymbols → Bool → Expression → Definition
@@ -165,7 +165,7 @@ module _ (place : Place) (said : Said) (table : Table) (stands : Stands place sa
   -- the moves by a change of the counter, if it is made
   set_by : (is_here : Bool) (number : ℕ)
       → change_moves table.modes.section (if is_here then Counts (Goes number) else Keeps) ≡ moves_by place (setting is_here number)
-  set_by true number = ap (λ (n : ℕ). in_section n (Goes number) ∷ []) stands.knows.section
+  set_by true number = ap (λ (n : ℕ). in_section n (Goes number) ∷ []) (section_known place said table stands.knows)
   set_by false number = refl
 
   counter_same : (tokens : Expression)
@@ -178,7 +178,7 @@ module _ (place : Place) (said : Said) (table : Table) (stands : Stands place sa
       → change_moves table.modes.section (Counts (stepping is_even (tables_before.location table) one))
       ≡ moves_by place (Some (stepping is_even (location place said) other))
   steps_same is_even one other same =
-      ap (λ (n : ℕ). in_section n (stepping is_even (tables_before.location table) one) ∷ []) stands.knows.section
+      ap (λ (n : ℕ). in_section n (stepping is_even (tables_before.location table) one) ∷ []) (section_known place said table stands.knows)
       ∙ ap (λ (n : ℕ). in_section place.section (stepping is_even n one) ∷ []) (location_same place said table stands)
       ∙ ap (λ (f : ℕ → ℕ). in_section place.section (stepping is_even (location place said) f) ∷ []) (equal_functions same)
 

@@ -1,6 +1,7 @@
--- What the lines of a source say: the definitions by their labels and assignments, and the moves of the location counters, in the order of
--- the lines. Each is read off its line and the lines before it. (MACRO-11 Language Reference Manual, "Symbols", "Label field", "Local
--- symbols", "Multiple definition of symbols", "Direct assignment statements" and "Current location counter".)
+-- What the lines of a source say: the definitions by their labels and assignments, the names that they make global, and the moves of the
+-- location counters, in the order of the lines. Each is read off its line and the lines before it. (MACRO-11 Language Reference Manual,
+-- "Symbols", "Label field", "Local symbols", "Multiple definition of symbols", "Direct assignment statements", ".GLOBL directive" and
+-- "Current location counter".)
 use Rattle.std.specs.Prelude.{ℕ, ◌+◌, ◌-◌, ◌*◌, ◌^◌, ◌&&◌, min, not, Bool, true, false, if◌then◌else◌, List, [], ◌∷◌, ◌++◌, length, Option, Some, None, is_some, option_map, count_by, fold}
 use Rattle.std.specs.List.{list_all, list_any}
 use Rattle.m11_base.specs.Devices.{Bytes}
@@ -19,7 +20,7 @@ use Rattle.m11_scan_statements.specs.declared.labels.LabelKind.{LabelKind}
 use Rattle.m11_scan_statements.specs.declared.labels.LabelKind.TheVariants as label
 use Rattle.m11_unfold_rules.specs.Definedness.{flag_U}
 use Rattle.m11_unfold_rules.specs.Unfolding.{UnfoldedLine}
-use Rattle.m11_asm_rules.specs.Actions.{Action, AlignTo, Assign, ByteList, LimitWords, Operate, PackedText, Room, SetCounter, SetNumber, Storage, Store, Text, WordList}
+use Rattle.m11_asm_rules.specs.Actions.{Action, AlignTo, Assign, ByteList, Export, LimitWords, Operate, PackedText, Room, SetCounter, SetNumber, Storage, Store, Text, WordList}
 use Rattle.m11_asm_rules.specs.Alignment.{gap, location_for, to_next}
 use Rattle.m11_asm_rules.specs.Assignments.{standing_of}
 use Rattle.m11_asm_rules.specs.Changes.{numbered}
@@ -45,11 +46,13 @@ pub record Said : Type 0 where
   pub definitions : List KeyDefinition
   -- the keys of those labels and assignments that define nothing
   pub doubly_defined : List Key
+  -- the names that become global
+  pub globals : List Name
   -- the moves of the location counters
   pub moves : List SectionMove
 
 abbrev pub nothing_said : Said
-nothing_said = record { definitions = []; doubly_defined = []; moves = [] }
+nothing_said = record { definitions = []; doubly_defined = []; globals = []; moves = [] }
 
 -- ---- what has been said of a key
 
@@ -66,6 +69,17 @@ also_defining key definition said = record said { definitions = said.definitions
 abbrev pub doubly_defining : Key → Said → Said
 doubly_defining key said = record said { doubly_defined = said.doubly_defined ++ key ∷ [] }
 
+abbrev pub exporting : List Name → Said → Said
+exporting names said = record said { globals = said.globals ++ names }
+
+-- a definition that makes its name global, if the flag is true
+abbrev pub name_if : Bool → Key → List Name
+name_if is_global (Named name) = if is_global then name ∷ [] else []
+name_if is_global (Numbered in_block number) = []
+
+abbrev pub also_exporting : Bool → Key → Definition → Said → Said
+also_exporting is_global key definition said = exporting (name_if is_global key) (also_defining key definition said)
+
 -- ---- the section, the location and the block of a line
 
 abbrev pub section_name : Place → Name
@@ -81,14 +95,18 @@ location place said = location_in place.section said.moves
 -- a block of local symbols begins where a label defines a name
 abbrev pub is_name : Key → Bool
 is_name (Named name) = true
-is_name (Numbered block number) = false
+is_name (Numbered in_block number) = false
 
 abbrev pub begins_block : KeyDefinition → Bool
 begins_block one = is_name one.key && is_of_label (Some one.definition)
 
--- and where a section is selected; the number of a block is how many blocks began before it, at most 2^64 - 1
+-- a count has 64 bits, and stops at the greatest number
+abbrev pub counted : ℕ → ℕ
+counted count = min count (2 ^ 64 - 1)
+
+-- and where a section is selected; the number of a block is how many blocks began before it
 abbrev pub block : Place → Said → ℕ
-block place said = min (place.selections + count_by begins_block said.definitions) (2 ^ 64 - 1)
+block place said = counted (place.selections + count_by begins_block said.definitions)
 
 -- ---- labels
 
@@ -104,15 +122,21 @@ label_key here name label.Global = option_map Named name
 label_key here name (label.Local number) = Some (Numbered here number)
 label_key here name label.Outside = None
 
+-- whether a label is written with `::`, and so makes the name that it defines global
+abbrev pub is_global_label : LabelKind → Bool
+is_global_label label.Global = true
+is_global_label other = false
+
 -- a label defines its key, if the key has no definition yet; otherwise the key is doubly defined
-abbrev pub by_label : Definition → Said → Option Key → Said
-by_label definition said None = said
-by_label definition said (Some key) =
-    if is_some (last_said key said) then doubly_defining key said else also_defining key definition said
+abbrev pub by_label : Bool → Definition → Said → Option Key → Said
+by_label is_global definition said None = said
+by_label is_global definition said (Some key) =
+    if is_some (last_said key said) then doubly_defining key said else also_exporting is_global key definition said
 
 abbrev pub with_label : Place → Bytes → Said → Label → Said
 with_label place line said named =
-    by_label (labelled place said) said (label_key (block place said) (label_name line named) named.kind)
+    by_label (is_global_label named.kind) (labelled place said) said
+    (label_key (block place said) (label_name line named) named.kind)
 
 abbrev pub after_labels : Place → Bytes → Said → Said
 after_labels place line said = fold (with_label place line) said (labels_at line)
@@ -165,18 +189,31 @@ assigned map place said tokens = record {
   label = None;
 }
 
--- the name that an action assigns, and its definition
-abbrev pub assignment_by : Map → Place → Said → Action → Option KeyDefinition
-assignment_by map place said (Assign name is_global tokens) =
-    option_map (λ (name : Name). defining (Named name) (assigned map place said tokens)) name
-assignment_by map place said (SetNumber name number) = Some (defining (Named name) (numbered number))
+-- an assignment: its name, whether it makes the name global, as `==` does, and its definition
+pub record Assignment : Type 0 where
+  pub name : Name
+  pub is_global : Bool
+  pub definition : Definition
+
+abbrev pub assigning : Bool → Definition → Name → Assignment
+assigning is_global definition name = record { name = name; is_global = is_global; definition = definition }
+
+abbrev pub assignment_by : Map → Place → Said → Action → Option Assignment
+assignment_by map place said (Assign name is_global tokens) = option_map (assigning is_global (assigned map place said tokens)) name
+assignment_by map place said (SetNumber name number) = Some (assigning false (numbered number) name)
 assignment_by map place said other = None
 
 -- an assignment defines its name, unless the name is a label's, which is then doubly defined
-abbrev pub by_assignment : Said → Option KeyDefinition → Said
+abbrev pub by_assignment : Said → Option Assignment → Said
 by_assignment said None = said
-by_assignment said (Some one) =
-    if is_of_label (last_said one.key said) then doubly_defining one.key said else also_defining one.key one.definition said
+by_assignment said (Some made) =
+    if is_of_label (last_said (Named made.name) said) then doubly_defining (Named made.name) said
+    else also_exporting made.is_global (Named made.name) made.definition said
+
+-- `.GLOBL` and `.WEAK` make their names global
+abbrev pub by_export : Said → Action → Said
+by_export said (Export is_weak names) = exporting names said
+by_export said other = said
 
 -- ---- moves
 
@@ -212,6 +249,9 @@ move_by place said line (Operate operation start) =
     λ here. instruction_size (forms_of (fields_at (firm place said here) line start operation)))
 move_by place said line other = None
 
+abbrev pub moving : List SectionMove → Said → Said
+moving moves said = record said { moves = said.moves ++ moves }
+
 abbrev pub moves_by : Place → Option Move → List SectionMove
 moves_by place None = []
 moves_by place (Some move) = in_section place.section move ∷ []
@@ -221,8 +261,8 @@ moves_by place (Some move) = in_section place.section move ∷ []
 -- what has been said after a line whose labels stand
 abbrev pub after_action : Map → Place → Bytes → Action → Said → Said
 after_action map place line action said =
-    let assigned = by_assignment said (assignment_by map place said action) in
-    record assigned { moves = said.moves ++ moves_by place (move_by place said line action) }
+    moving (moves_by place (move_by place said line action))
+    (by_export (by_assignment said (assignment_by map place said action)) action)
 
 -- what these lines say, the first of which is the last line
 abbrev pub said_by : Map → List UnfoldedLine → Said

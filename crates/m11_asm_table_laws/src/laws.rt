@@ -8,11 +8,11 @@ ghost use Rattle.m11_asm_table_laws.specs.Places.{place_after};
 ghost use Rattle.m11_asm_table_laws.specs.Said.{said_by};
 ghost use Rattle.m11_asm_table_laws.specs.Tables.{Records};
 
-/// The table after some lines records what these lines say, as it is read off the lines alone. A line stands in the section that the last
-/// line before it selected, and its location is the one last set in that section plus the sizes of the section's lines since then. Its
-/// labels define their names there, unless a name has a definition already; its assignment defines a name, unless the name is a label's. The
-/// table has the last of these definitions of each name and each local symbol, just these sections, and for each of them the counter and
-/// the size after these moves.
+/// The table after some lines records what these lines say, read off the lines alone, and nothing else. A line stands in the section that the
+/// last line before it selected, and its location is the one last set in that section plus the sizes of the section's lines since then. A
+/// label defines its name or local symbol there, unless that has a definition already; an assignment defines its name, unless the name is a
+/// label's; where they don't define, they make it doubly defined. The table has the last of these definitions of each name and local symbol,
+/// the names that became global, the sections that were selected, the counter and the size of each, and the modes of the next line.
 pub fn the_table_is_read_off_the_lines()
     ensures { (map : Map) (lines : List UnfoldedLine)
         → Records (place_after (reverse lines)) (said_by map (reverse lines)) (table_after map lines) }
