@@ -41,7 +41,7 @@ module _ (place : Place) (said : Said) (table : Table) (stands : Stands place sa
       ap (λ (n : ℕ). numbered n table.sections) (section_known place said table knows)
       ∙ ap (λ (s : List Section). numbered place.section s) knows.sections
 
-  label_same : tables.labelled table ≡ labelled place said
+  pub label_same : tables.labelled table ≡ labelled place said
   label_same =
       ap (λ (n : ℕ). record { standing = Known n (tables_before.kind_here table); is_firm = true; label = Some (tables_before.section_name table) }) location_same
       ∙ ap (λ (k : Kind). record { standing = Known (location place said) k; is_firm = true; label = Some (tables_before.section_name table) }) kind_same
@@ -141,7 +141,7 @@ label_moves is_global definition said (Some key) = moves_by (is_some (last_said 
 
 -- ---- all labels of a line
 
-label_stands : (place : Place) (line : Bytes) (said : Said) (table : Table) (named : Label) → Stands place said table
+pub label_stands : (place : Place) (line : Bytes) (said : Said) (table : Table) (named : Label) → Stands place said table
     → Stands place (with_label place line said named) (tables.with_label line table named)
 label_stands place line said table named stands = record {
   knows = kind_known place said table stands (tables.label_name line named) named.kind;

@@ -3,4 +3,5 @@ mod LabelsRecorded
 mod Selecting
 mod Values
 mod ActionsRecorded
+mod DefinitionsSaid
 mod LinesRecorded

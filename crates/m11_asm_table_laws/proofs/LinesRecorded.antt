@@ -4,6 +4,8 @@ use Rattle.std.specs.Prelude.{unwrap_or}
 use Rattle.std.proofs.lemmas.List.{reverse-append, reverse-reverse}
 use Rattle.std.proofs.lemmas.List.Sums.{fold-append}
 use Rattle.m11_scan.specs.declared.radix.Radix.TheVariants.{Octal}
+use Rattle.m11_base.specs.Devices.{Bytes}
+use Rattle.m11_scan_statements.specs.Labels.{labels_at}
 use Rattle.m11_base.specs.Names.{blank_name}
 use Rattle.m11_base.specs.Rad50.{Name}
 use Rattle.m11_base.proofs.NameWords.{absolute_words}
@@ -11,18 +13,19 @@ use Rattle.m11_unfold_rules.specs.Unfolding.{UnfoldedLine}
 use Rattle.m11_asm_rules.specs.Definitions.{has_key, no_keys}
 use Rattle.m11_asm_rules.specs.declared.definitions.Key.{Key}
 use Rattle.m11_asm_rules.specs.declared.definitions.Key.TheVariants.{Named, Numbered}
-use Rattle.m11_asm_rules.specs.History.{line_moves, moves_from, moves_of}
-use Rattle.m11_asm_rules.specs.Lines.{after_line, line_change, stands}
+use Rattle.m11_asm_rules.specs.History.{KeyDefinition, change_definitions, definitions_from, definitions_of, labels_definitions, line_definitions, line_moves, moves_from, moves_of}
+use Rattle.m11_asm_rules.specs.Lines.{after_line, change_of, line_change, stands}
 use Rattle.m11_asm_rules.specs.Locations.{SectionMove, location_in, size_in}
 use Rattle.m11_asm_rules.specs.Meanings.{Map}
 use Rattle.m11_asm_rules.specs.Placements.{after_lines, table_after}
 use Rattle.m11_asm_rules.specs.Sections.{of_absolute, of_program, section}
-use Rattle.m11_asm_rules.specs.Tables.{Table, first_modes, first_table, location_of}
+use Rattle.m11_asm_rules.specs.Tables.{Table, firm_table, first_modes, first_table, location_of}
 use Rattle.m11_asm_rules.proofs.History.{says}
 use Rattle.m11_asm_table_laws.specs.Places.{action_in, expansions_set, how_many, index_of, last_set, lists, name_selected, place_after, radix_set, sections_after, selects, unlists}
 use Rattle.m11_asm_table_laws.specs.Said.{Said, after_labels, is_doubly_defined, move_by, moves_by, nothing_said, said_by}
 use Rattle.m11_asm_table_laws.specs.Tables.{Records}
 use Rattle.m11_asm_table_laws.proofs.ActionsRecorded.{action_known, action_moves}
+use Rattle.m11_asm_table_laws.proofs.DefinitionsSaid.{action_defined, labels_defined}
 use Rattle.m11_asm_table_laws.proofs.Knowing.{Knows, Stands}
 use Rattle.m11_asm_table_laws.proofs.LabelsRecorded.{labels_moves, labels_stand}
 use Rattle.m11_asm_table_laws.proofs.Values.{moves_same}
@@ -49,10 +52,20 @@ moves_more map table (first ∷ lines) given =
     ∙ sym (append_assoc (line_moves table first) (moves_from map (after_line map table first) lines)
     (line_moves (after_lines map (after_line map table first) lines) given))
 
+definitions_more : (map : Map) (table : Table) (lines : List UnfoldedLine) (given : UnfoldedLine)
+    → definitions_from map table (lines ++ given ∷ [])
+    ≡ definitions_from map table lines ++ line_definitions map (after_lines map table lines) given
+definitions_more map table [] given = append-nil (line_definitions map table given)
+definitions_more map table (first ∷ lines) given =
+    ap (λ (d : List KeyDefinition). line_definitions map table first ++ d) (definitions_more map (after_line map table first) lines given)
+    ∙ sym (append_assoc (line_definitions map table first) (definitions_from map (after_line map table first) lines)
+    (line_definitions map (after_lines map (after_line map table first) lines) given))
+
 -- ---- what is known after the lines so far
 
 pub record KnowsLines (map : Map) (before : List UnfoldedLine) : Type 0 where
   pub knows : Knows (place_after before) (said_by map before) (table_by map before)
+  pub definitions : (said_by map before).definitions ≡ definitions_of map (reverse before)
   pub moves : (said_by map before).moves ≡ moves_of map (reverse before)
 
 none_doubly : (key : Key) → has_key key no_keys ≡ is_doubly_defined key nothing_said
@@ -74,6 +87,7 @@ first_knows map = record {
     sections = refl;
     modes = ap (λ (n : ℕ). record first_modes { section = n }) blank_second;
   };
+  definitions = refl;
   moves = refl;
 }
 
@@ -100,10 +114,12 @@ module _ (map : Map) (before : List UnfoldedLine) (so_far : KnowsLines map befor
   abbrev labels_said : UnfoldedLine → Said
   labels_said given = after_labels (place_after before) given.live.line.text (said_by map before)
 
+  before_stands : Stands (place_after before) (said_by map before) (table_by map before)
+  before_stands = record { knows = so_far.knows; counters = counters_known }
+
   line_stands : (given : UnfoldedLine) → Stands (place_after before) (labels_said given) (stands (table_by map before) given)
   line_stands given =
-      labels_stand (place_after before) given.live.line.text (said_by map before) (table_by map before)
-      (record { knows = so_far.knows; counters = counters_known })
+      labels_stand (place_after before) given.live.line.text (said_by map before) (table_by map before) before_stands
 
   line_moves_known : (given : UnfoldedLine)
       → line_moves (table_by map before) given
@@ -112,6 +128,19 @@ module _ (map : Map) (before : List UnfoldedLine) (so_far : KnowsLines map befor
   line_moves_known given =
       moves_same (place_after before) (labels_said given) (stands (table_by map before) given) (line_stands given)
       given.live.line.text (action_in given)
+
+  line_defined : (given : UnfoldedLine)
+      → (said_by map (given ∷ before)).definitions
+      ≡ (said_by map before).definitions ++ line_definitions map (table_by map before) given
+  unfolding line_change action_in
+  line_defined given =
+      let line : Bytes = given.live.line.text in
+      let stood : Table = stands (table_by map before) given in
+      action_defined (place_after before) (labels_said given) stood (line_stands given) map line (action_in given)
+      ∙ ap (λ (d : List KeyDefinition). d ++ change_definitions map stood (change_of (firm_table stood) line (action_in given)))
+      (labels_defined (place_after before) line (said_by map before) (table_by map before) before_stands)
+      ∙ append_assoc (said_by map before).definitions (labels_definitions line (table_by map before) (labels_at line))
+      (change_definitions map stood (change_of (firm_table stood) line (action_in given)))
 
   line_known : (given : UnfoldedLine)
       → Knows (place_after (given ∷ before)) (said_by map (given ∷ before)) (after_line map (table_by map before) given)
@@ -124,6 +153,10 @@ module _ (map : Map) (before : List UnfoldedLine) (so_far : KnowsLines map befor
   one_more_known : (given : UnfoldedLine) → KnowsLines map (given ∷ before)
   one_more_known given = record {
     knows = subst (Knows (place_after (given ∷ before)) (said_by map (given ∷ before))) (sym (table_more map before given)) (line_known given);
+    definitions =
+        line_defined given
+        ∙ ap (λ (d : List KeyDefinition). d ++ line_definitions map (table_by map before) given) so_far.definitions
+        ∙ sym (ap (definitions_of map) (last_line before given) ∙ definitions_more map first_table (reverse before) given);
     moves =
         action_moves map (place_after before) given.live.line.text (action_in given) (labels_said given)
         ∙ ap (λ (m : List SectionMove). m ++ moves_by (place_after before) (move_by (place_after before) (labels_said given) given.live.line.text (action_in given)))
@@ -141,3 +174,10 @@ pub recorded : (map : Map) (lines : List UnfoldedLine)
 recorded map lines =
     subst (Records (place_after (reverse lines)) (said_by map (reverse lines))) (ap (table_after map) (reverse-reverse lines))
     (so_far_records map (reverse lines) (all_known map (reverse lines)))
+
+pub definitions_read : (map : Map) (lines : List UnfoldedLine) → definitions_of map lines ≡ (said_by map (reverse lines)).definitions
+definitions_read map lines =
+    ap (definitions_of map) (sym (reverse-reverse lines)) ∙ sym (all_known map (reverse lines)).definitions
+
+pub moves_read : (map : Map) (lines : List UnfoldedLine) → moves_of map lines ≡ (said_by map (reverse lines)).moves
+moves_read map lines = ap (moves_of map) (sym (reverse-reverse lines)) ∙ sym (all_known map (reverse lines)).moves
