@@ -25,17 +25,17 @@ use Rattle.m11_asm_rules.specs.declared.sections.Section.{Section}
 use Rattle.m11_asm_rules.specs.Tables.{Table, firm_table, location}
 use Rattle.m11_asm_rules.specs.declared.modes.Modes.{Modes}
 use Rattle.m11_asm_table_laws.specs.Places.{Place, expansions_set, index_of, lists, name_selected, radix_set, selected_by, selects, unlists, with_selected}
-use Rattle.m11_asm_table_laws.specs.Said.{Assignment, Said, after_action, also_defining, also_exporting, assigned, assigning, assignment_by, begins_block, by_assignment, by_export, doubly_defining, last_said, move_by, moves_by, moving, stepping}
+use Rattle.m11_asm_table_laws.specs.Said.{Said, also_defining, begins_block, doubly_defining, last_said, moving}
+use Rattle.m11_asm_table_laws.specs.Lines.{Assignment, after_action, also_exporting, assigned, assigning, assignment_by, by_assignment, by_export, move_by, moves_by, stepping}
 use Rattle.m11_asm_table_laws.specs.Tables.{modes_at}
 use Rattle.m11_asm_table_laws.proofs.Knowing.{Knows, Stands, counted_more, knows_also, knows_doubly, knows_exporting, knows_moving, knows_name_if, next_selection}
 use Rattle.m11_asm_table_laws.proofs.Selecting.{section_selected, sections_selected}
 use Rattle.m11_asm_table_laws.proofs.Values.{assigned_same}
 
--- the place with these sections, where the section with this name is the current one
 abbrev pub place_by : List Section → Name → ℕ → Radix → ℕ → ℕ → Bool → Place
 place_by sections name selections radix listed unlisted shows = record {
   sections = sections;
-  section = index_of name sections;
+  section = name;
   selections = selections;
   radix = radix;
   listed = listed;

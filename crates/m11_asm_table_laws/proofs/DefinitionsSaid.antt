@@ -22,7 +22,8 @@ use Rattle.m11_asm_rules.specs.declared.definitions.Definition.{Definition}
 use Rattle.m11_asm_rules.specs.declared.definitions.Key.{Key}
 use Rattle.m11_asm_rules.specs.declared.definitions.Key.TheVariants.{Named, Numbered}
 use Rattle.m11_asm_table_laws.specs.Places.{Place}
-use Rattle.m11_asm_table_laws.specs.Said.{Said, after_action, after_labels, also_exporting, assigned, assigning, block, by_assignment, by_label, doubly_defining, is_global_label, label_key, labelled, with_label}
+use Rattle.m11_asm_table_laws.specs.Said.{Said, block, doubly_defining}
+use Rattle.m11_asm_table_laws.specs.Lines.{after_action, after_labels, also_exporting, assigned, assigning, by_assignment, by_label, is_global_label, label_key, labelled, with_label}
 use Rattle.m11_asm_table_laws.proofs.Knowing.{Stands, block_known}
 use Rattle.m11_asm_table_laws.proofs.LabelsRecorded.{label_same, label_stands}
 use Rattle.m11_asm_table_laws.proofs.Values.{assigned_same}

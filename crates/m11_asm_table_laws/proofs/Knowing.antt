@@ -14,10 +14,12 @@ use Rattle.m11_asm_rules.specs.Changes.{with_globals}
 use Rattle.m11_asm_rules.specs.History.{KeyDefinition, defining, last_of}
 use Rattle.m11_asm_rules.specs.Labels.{global_if, one_more, with_block, with_definition, with_doubly_defined}
 use Rattle.m11_asm_rules.specs.Locations.{SectionMove, location_in}
+use Rattle.m11_asm_rules.specs.Sections.{numbered}
 use Rattle.m11_asm_rules.specs.Tables.{Table, location_of}
 use Rattle.m11_asm_rules.proofs.LastDefinitions.{last_more}
-use Rattle.m11_asm_table_laws.specs.Places.{Place}
-use Rattle.m11_asm_table_laws.specs.Said.{Said, also_defining, begins_block, block, counted, doubly_defining, exporting, is_doubly_defined, last_said, moving, name_if}
+use Rattle.m11_asm_table_laws.specs.Places.{Place, number}
+use Rattle.m11_asm_table_laws.specs.Said.{Said, also_defining, begins_block, block, counted, doubly_defining, exporting, is_doubly_defined, last_said, moving}
+use Rattle.m11_asm_table_laws.specs.Lines.{name_if}
 use Rattle.m11_asm_table_laws.specs.Tables.{modes_at}
 use Rattle.m11_asm_rules.specs.declared.modes.Modes.{Modes}
 
@@ -28,9 +30,10 @@ pub record Knows (place : Place) (said : Said) (table : Table) : Type 0 where
   pub sections : table.sections ≡ place.sections
   pub modes : table.modes ≡ modes_at place said
 
--- and each counter is the one after the moves so far
+-- and each counter is the one after the moves so far, and the section of the next line has its name
 pub record Stands (place : Place) (said : Said) (table : Table) : Type 0 where
   pub knows : Knows place said table
+  pub named : (numbered (number place) place.sections).name ≡ place.section
   pub counters : (section : ℕ) → location_of section table ≡ location_in section said.moves
 
 -- ---- lists of keys and definitions
@@ -131,7 +134,7 @@ module _ (place : Place) (said : Said) (key : Key) (definition : Definition) whe
 -- ---- steps
 
 module _ (place : Place) (said : Said) (table : Table) (knows : Knows place said table) where
-  pub section_known : table.modes.section ≡ place.section
+  pub section_known : table.modes.section ≡ number place
   section_known = ap (λ (m : Modes). m.section) knows.modes
 
   pub block_known : table.modes.block ≡ block place said

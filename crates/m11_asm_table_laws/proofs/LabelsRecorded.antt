@@ -3,6 +3,7 @@ use Rattle.std.proofs.Common.{◌≡◌, ◌∙◌, ℕ, Bool, true, false, if�
 use Rattle.m11_base.specs.Devices.{Bytes}
 use Rattle.m11_base.specs.Rad50.{Name}
 use Rattle.m11_scan_expressions.specs.declared.kinds.Kind.{Kind}
+use Rattle.m11_scan_expressions.specs.declared.kinds.Kind.TheVariants as kind
 use Rattle.m11_scan_statements.specs.Labels.{labels_at}
 use Rattle.m11_scan_statements.specs.declared.labels.Label.{Label}
 use Rattle.m11_scan_statements.specs.declared.labels.LabelKind.{LabelKind}
@@ -14,12 +15,13 @@ use Rattle.m11_asm_rules.specs.declared.definitions.Key.TheVariants.{Named, Numb
 use Rattle.m11_asm_rules.specs.declared.definitions.Standing.TheVariants.{Known}
 use Rattle.m11_asm_rules.specs.Labels as tables
 use Rattle.m11_asm_rules.specs.Locations.{SectionMove, location_in}
-use Rattle.m11_asm_rules.specs.Sections.{location_kind, numbered}
+use Rattle.m11_asm_rules.specs.Sections.{is_relocatable, numbered}
 use Rattle.m11_asm_rules.specs.declared.sections.Section.{Section}
 use Rattle.m11_asm_rules.specs.Tables as tables_before
 use Rattle.m11_asm_rules.specs.Tables.{Table, location_of}
-use Rattle.m11_asm_table_laws.specs.Places.{Place}
-use Rattle.m11_asm_table_laws.specs.Said.{Said, after_labels, also_defining, also_exporting, block, by_label, doubly_defining, is_global_label, kind_here, label_key, labelled, last_said, location, with_label}
+use Rattle.m11_asm_table_laws.specs.Places.{Place, is_moved, kind_here, number}
+use Rattle.m11_asm_table_laws.specs.Said.{Said, also_defining, block, doubly_defining, last_said, location}
+use Rattle.m11_asm_table_laws.specs.Lines.{after_labels, also_exporting, by_label, is_global_label, label_key, labelled, with_label}
 use Rattle.m11_asm_table_laws.proofs.Knowing.{Knows, Stands, knows_also, block_known, knows_doubly, knows_name_if, knows_next, knows_no_names, section_known}
 
 -- ---- the section and the location of a line
@@ -31,21 +33,24 @@ module _ (place : Place) (said : Said) (table : Table) (stands : Stands place sa
   pub location_same : tables_before.location table ≡ location place said
   location_same = stands.counters table.modes.section ∙ ap (λ (n : ℕ). location_in n said.moves) (section_known place said table knows)
 
-  pub kind_same : tables_before.kind_here table ≡ kind_here place
-  kind_same =
-      ap (λ (n : ℕ). location_kind n table.sections) (section_known place said table knows)
-      ∙ ap (λ (s : List Section). location_kind place.section s) knows.sections
-
-  pub section_same : numbered table.modes.section table.sections ≡ numbered place.section place.sections
+  pub section_same : numbered table.modes.section table.sections ≡ numbered (number place) place.sections
   section_same =
       ap (λ (n : ℕ). numbered n table.sections) (section_known place said table knows)
-      ∙ ap (λ (s : List Section). numbered place.section s) knows.sections
+      ∙ ap (λ (s : List Section). numbered (number place) s) knows.sections
+
+  pub name_same : tables_before.section_name table ≡ place.section
+  name_same = ap (λ (s : Section). s.name) section_same ∙ stands.named
+
+  pub kind_same : tables_before.kind_here table ≡ kind_here place
+  kind_same =
+      ap (λ (s : Section). if is_relocatable s then kind.Section s.name else kind.Absolute) section_same
+      ∙ ap (λ (n : Name). if is_moved place then kind.Section n else kind.Absolute) stands.named
 
   pub label_same : tables.labelled table ≡ labelled place said
   label_same =
       ap (λ (n : ℕ). record { standing = Known n (tables_before.kind_here table); is_firm = true; label = Some (tables_before.section_name table) }) location_same
       ∙ ap (λ (k : Kind). record { standing = Known (location place said) k; is_firm = true; label = Some (tables_before.section_name table) }) kind_same
-      ∙ ap (λ (s : Section). record { standing = Known (location place said) (kind_here place); is_firm = true; label = Some s.name }) section_same
+      ∙ ap (λ (n : Name). record { standing = Known (location place said) (kind_here place); is_firm = true; label = Some n }) name_same
 
   name_by : (is_there is_global : Bool) (name : Name) (definition : Definition) → definition ≡ labelled place said
       → Knows place (if is_there then doubly_defining (Named name) said else also_exporting is_global (Named name) (labelled place said) said)
@@ -145,6 +150,7 @@ pub label_stands : (place : Place) (line : Bytes) (said : Said) (table : Table) 
     → Stands place (with_label place line said named) (tables.with_label line table named)
 label_stands place line said table named stands = record {
   knows = kind_known place said table stands (tables.label_name line named) named.kind;
+  named = stands.named;
   counters = λ section.
       ap (λ (l : List ℕ). get_or l section 0) (kind_counters table (tables.label_name line named) named.kind)
       ∙ stands.counters section

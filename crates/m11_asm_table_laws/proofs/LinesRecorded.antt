@@ -1,5 +1,5 @@
 -- After each line of a source, the table records what the lines so far say.
-use Rattle.std.proofs.Common.{◌≡◌, ◌∙◌, ℕ, false, List, [], ◌∷◌, ◌++◌, append_assoc, append-nil, reverse, Option, refl, sym, ap, subst}
+use Rattle.std.proofs.Common.{◌≡◌, ◌∙◌, ℕ, true, false, List, [], ◌∷◌, ◌++◌, append_assoc, append-nil, reverse, Option, refl, sym, ap, subst}
 use Rattle.std.specs.Prelude.{unwrap_or}
 use Rattle.std.proofs.lemmas.List.{reverse-append, reverse-reverse}
 use Rattle.std.proofs.lemmas.List.Sums.{fold-append}
@@ -18,16 +18,18 @@ use Rattle.m11_asm_rules.specs.Lines.{after_line, change_of, line_change, stands
 use Rattle.m11_asm_rules.specs.Locations.{SectionMove, location_in, size_in}
 use Rattle.m11_asm_rules.specs.Meanings.{Map}
 use Rattle.m11_asm_rules.specs.Placements.{after_lines, table_after}
-use Rattle.m11_asm_rules.specs.Sections.{of_absolute, of_program, section}
+use Rattle.m11_asm_rules.specs.Sections.{numbered, of_absolute, of_program, section}
 use Rattle.m11_asm_rules.specs.Tables.{Table, firm_table, first_modes, first_table, location_of}
 use Rattle.m11_asm_rules.proofs.History.{says}
-use Rattle.m11_asm_table_laws.specs.Places.{action_in, expansions_set, how_many, index_of, last_set, lists, name_selected, place_after, radix_set, sections_after, selects, unlists}
-use Rattle.m11_asm_table_laws.specs.Said.{Said, after_labels, is_doubly_defined, move_by, moves_by, nothing_said, said_by}
+use Rattle.m11_asm_table_laws.specs.Places.{action_in, expansions_set, has_section, how_many, index_of, last_set, lists, name_selected, number, place_after, radix_set, sections_after, selected_by, selects, unlists}
+use Rattle.m11_asm_table_laws.specs.Said.{Said, is_doubly_defined, nothing_said}
+use Rattle.m11_asm_table_laws.specs.Lines.{after_labels, move_by, moves_by, said_by}
 use Rattle.m11_asm_table_laws.specs.Tables.{Records}
 use Rattle.m11_asm_table_laws.proofs.ActionsRecorded.{action_known, action_moves}
 use Rattle.m11_asm_table_laws.proofs.DefinitionsSaid.{action_defined, labels_defined}
 use Rattle.m11_asm_table_laws.proofs.Knowing.{Knows, Stands}
 use Rattle.m11_asm_table_laws.proofs.LabelsRecorded.{labels_moves, labels_stand}
+use Rattle.m11_asm_table_laws.proofs.Selecting.{found_name, found_selected}
 use Rattle.m11_asm_table_laws.proofs.Values.{moves_same}
 
 -- the table after these lines, the first of which is the last line
@@ -60,6 +62,23 @@ definitions_more map table (first ∷ lines) given =
     ap (λ (d : List KeyDefinition). line_definitions map table first ++ d) (definitions_more map (after_line map table first) lines given)
     ∙ sym (append_assoc (line_definitions map table first) (definitions_from map (after_line map table first) lines)
     (line_definitions map (after_lines map (after_line map table first) lines) given))
+
+-- ---- the section of the next line
+
+-- the blank section is one of the sections before the first line
+blank_there : has_section blank_name (sections_after []) ≡ true
+blank_there =
+    ap (λ (o : Option Name). has_section blank_name (section (unwrap_or o (0, 0)) of_absolute ∷ section blank_name of_program ∷ []))
+    absolute_words
+
+current_there : (before : List UnfoldedLine) → has_section (place_after before).section (sections_after before) ≡ true
+current_there [] = blank_there
+current_there (given ∷ before) =
+    found_selected (place_after before).section (sections_after before) (selected_by (action_in given)) (current_there before)
+
+current_named : (before : List UnfoldedLine)
+    → (numbered (number (place_after before)) (sections_after before)).name ≡ (place_after before).section
+current_named before = found_name (place_after before).section (sections_after before) (current_there before)
 
 -- ---- what is known after the lines so far
 
@@ -115,7 +134,7 @@ module _ (map : Map) (before : List UnfoldedLine) (so_far : KnowsLines map befor
   labels_said given = after_labels (place_after before) given.live.line.text (said_by map before)
 
   before_stands : Stands (place_after before) (said_by map before) (table_by map before)
-  before_stands = record { knows = so_far.knows; counters = counters_known }
+  before_stands = record { knows = so_far.knows; named = current_named before; counters = counters_known }
 
   line_stands : (given : UnfoldedLine) → Stands (place_after before) (labels_said given) (stands (table_by map before) given)
   line_stands given =

@@ -1,11 +1,12 @@
 -- The sections of a table, and the number of the current one, after a section is selected.
-use Rattle.std.proofs.Common.{◌≡◌, ◌∙◌, ℕ, suc, ◌+◌, ◌||◌, Bool, true, false, not, cond, if◌then◌else◌, List, [], ◌∷◌, ◌++◌, length, nat_lt, Option, Some, None, unwrap_or, refl, sym, ap, true≢false, arith}
+use Rattle.std.proofs.Common.{◌≡◌, ◌∙◌, ℕ, suc, ◌+◌, ◌||◌, Bool, true, false, not, cond, if◌then◌else◌, List, [], ◌∷◌, ◌++◌, length, nat_lt, Option, Some, None, option_map, one-add, unwrap_or, refl, sym, ap, true≢false, arith}
 use Rattle.std.specs.List.{list_any, position_or_len}
+use Rattle.std.proofs.lemmas.List.Folds.{list_any-append}
 use Rattle.std.proofs.lemmas.Bool.Decides.{nat_tests}
 use Rattle.m11_base.specs.Rad50.{Name, is_same_name}
-use Rattle.m11_base.proofs.SameNames.{same_name_itself}
+use Rattle.m11_base.proofs.SameNames.{same_name_equal, same_name_itself}
 use Rattle.m11_asm_rules.specs.Changes.{with_new}
-use Rattle.m11_asm_rules.specs.Sections.{number_of, section}
+use Rattle.m11_asm_rules.specs.Sections.{number_of, numbered, section}
 use Rattle.m11_asm_rules.specs.declared.sections.Section.{Section}
 use Rattle.m11_asm_table_laws.specs.Places.{has_section, index_of, with_selected}
 
@@ -70,3 +71,30 @@ module _ (name : Name) (attributes : ℕ) (known : List Section) where
   pub section_selected : unwrap_or (number_of name known) (length known) ≡ index_of name (with_selected known (Some new))
   section_selected =
       ap (λ (o : Option ℕ). unwrap_or o (length known)) number_by ∙ index_by (has_section name known) refl
+
+-- ---- the name of the current section
+
+-- the section with the index of a name has that name, if any section has it
+name_by : (name : Name) (one : Section) (known : List Section) (is_first : Bool) → is_same_name one.name name ≡ is_first
+    → (is_first || has_section name known) ≡ true → (has_section name known ≡ true → (numbered (index_of name known) known).name ≡ name)
+    → (numbered (cond (not is_first) (1 + index_of name known) 0) (one ∷ known)).name ≡ name
+name_by name one known true same found others = same_name_equal one.name name same
+name_by name one known false same found others =
+    ap (λ (n : ℕ). (numbered n (one ∷ known)).name) (one-add (index_of name known)) ∙ others found
+
+pub found_name : (name : Name) (known : List Section) → has_section name known ≡ true → (numbered (index_of name known) known).name ≡ name
+found_name name [] found = absurd (true≢false (sym found))
+found_name name (one ∷ known) found = name_by name one known (is_same_name one.name name) refl found (found_name name known)
+
+found_by : (name : Name) (attributes : ℕ) (known : List Section) (is_there : Bool) → has_section name known ≡ is_there
+    → has_section name (if is_there then known else known ++ section name attributes ∷ []) ≡ true
+found_by name attributes known true found = found
+found_by name attributes known false found =
+    list_any-append (λ (one : Section). is_same_name one.name name) known (section name attributes ∷ [])
+    ∙ ap (λ (b : Bool). b || (is_same_name name name || false)) found ∙ ap (λ (b : Bool). b || false) (same_name_itself name)
+
+-- a section that was selected is one of the sections
+pub found_selected : (name : Name) (known : List Section) (selected : Option Section) → has_section name known ≡ true
+    → has_section (unwrap_or (option_map (λ (one : Section). one.name) selected) name) (with_selected known selected) ≡ true
+found_selected name known None found = found
+found_selected name known (Some new) found = found_by new.name new.attributes known (has_section new.name known) refl

@@ -37,10 +37,12 @@ use Rattle.m11_asm_rules.specs.Storage.{block_count}
 use Rattle.m11_asm_rules.specs.Tables as tables_before
 use Rattle.m11_asm_rules.specs.Tables.{Table, firm_table}
 use Rattle.m11_asm_rules.proofs.NamesByMaps.{firm_option, last_firm}
-use Rattle.m11_asm_table_laws.specs.Places.{Place}
-use Rattle.m11_asm_table_laws.specs.Said.{Said, assigned, block, firm, firm_meaning, given_by, is_doubly_defined, is_firm, is_here, known, last_said, location, meaning, move_by, moves_by, size, stepping, symbol_value, unknown}
+use Rattle.m11_asm_table_laws.specs.Places.{Place, is_here, number}
+use Rattle.m11_asm_table_laws.specs.Said.{Said, block, is_doubly_defined, last_said, location}
+use Rattle.m11_asm_table_laws.specs.Symbols.{firm, firm_meaning, given_by, is_firm, known, meaning, symbol_value, unknown}
+use Rattle.m11_asm_table_laws.specs.Lines.{assigned, move_by, moves_by, size, stepping}
 use Rattle.m11_asm_table_laws.proofs.Knowing.{Stands, block_known, radix_known, section_known}
-use Rattle.m11_asm_table_laws.proofs.LabelsRecorded.{kind_same, location_same, section_same}
+use Rattle.m11_asm_table_laws.proofs.LabelsRecorded.{kind_same, location_same, name_same, section_same}
 
 equal_functions : {A B : Type 0} {f g : A → B} → ((a : A) → f a ≡ g a) → f ≡ g
 equal_functions same = λ i a. same a i
@@ -156,7 +158,7 @@ module _ (place : Place) (said : Said) (table : Table) (stands : Stands place sa
   is_here_same : (kind : Kind) → relocations.is_here (firm_table table) kind ≡ is_here place kind
   is_here_same kind.Absolute = ap (λ (s : Section). not (is_relocatable s)) (section_same place said table stands)
   is_here_same kind.Register = ap (λ (s : Section). not (is_relocatable s)) (section_same place said table stands)
-  is_here_same (kind.Section name) = ap (λ (s : Section). is_same_name name s.name) (section_same place said table stands)
+  is_here_same (kind.Section name) = ap (is_same_name name) (name_same place said table stands)
   is_here_same (kind.Reference name) = refl
 
   abbrev setting : Bool → ℕ → Option Move
@@ -179,8 +181,8 @@ module _ (place : Place) (said : Said) (table : Table) (stands : Stands place sa
       ≡ moves_by place (Some (stepping is_even (location place said) other))
   steps_same is_even one other same =
       ap (λ (n : ℕ). in_section n (stepping is_even (tables_before.location table) one) ∷ []) (section_known place said table stands.knows)
-      ∙ ap (λ (n : ℕ). in_section place.section (stepping is_even n one) ∷ []) (location_same place said table stands)
-      ∙ ap (λ (f : ℕ → ℕ). in_section place.section (stepping is_even (location place said) f) ∷ []) (equal_functions same)
+      ∙ ap (λ (n : ℕ). in_section (number place) (stepping is_even n one) ∷ []) (location_same place said table stands)
+      ∙ ap (λ (f : ℕ → ℕ). in_section (number place) (stepping is_even (location place said) f) ∷ []) (equal_functions same)
 
   pub moves_same : (line : Bytes) (action : Action)
       → change_moves table.modes.section (change_of (firm_table table) line action) ≡ moves_by place (move_by place said line action)

@@ -1,3 +1,5 @@
+pub mod Lines
 pub mod Places
 pub mod Said
+pub mod Symbols
 pub mod Tables

@@ -1,17 +1,19 @@
 -- Where a line stands, as the operators of the lines before it say: in which section, with which radix, and with which listing levels.
 -- (MACRO-11 Language Reference Manual, "Program section directives", "Radix control" and "Listing control directives". This project's own:
 -- a section keeps the attributes of the line that selects it first.) The lines before a line are a list, the last one first.
-use Rattle.std.specs.Prelude.{ℕ, ◌+◌, Bool, true, false, if◌then◌else◌, List, [], ◌∷◌, ◌++◌, Option, Some, None, is_some, option_map, unwrap_or}
+use Rattle.std.specs.Prelude.{ℕ, ◌+◌, not, Bool, true, false, if◌then◌else◌, List, [], ◌∷◌, ◌++◌, Option, Some, None, is_some, option_map, unwrap_or}
 use Rattle.std.specs.List.{list_any, position_or_len}
 use Rattle.m11_base.specs.Names.{blank_name}
 use Rattle.m11_base.specs.Rad50.{Name, is_same_name}
 use Rattle.m11_scan.specs.declared.radix.Radix.{Radix}
 use Rattle.m11_scan.specs.declared.radix.Radix.TheVariants.{Octal}
+use Rattle.m11_scan_expressions.specs.declared.kinds.Kind.{Kind}
+use Rattle.m11_scan_expressions.specs.declared.kinds.Kind.TheVariants as kind
 use Rattle.m11_unfold_rules.specs.Unfolding.{UnfoldedLine}
 use Rattle.m11_asm_rules.specs.Actions.{Action, ListExpansions, MoveLevel, Select, SetRadix}
 use Rattle.m11_asm_rules.specs.Operations.{action}
 use Rattle.m11_asm_rules.specs.Psects.{with_attributes}
-use Rattle.m11_asm_rules.specs.Sections.{first_sections, section}
+use Rattle.m11_asm_rules.specs.Sections.{first_sections, is_relocatable, numbered, section}
 use Rattle.m11_asm_rules.specs.declared.sections.Section.{Section}
 
 -- ---- the operators of lines
@@ -83,9 +85,9 @@ expansions_set other = None
 -- ---- the place of the line after these
 
 pub record Place : Type 0 where
-  -- the sections so far, and the number of the line's section, which is its index among them
+  -- the sections so far, and the name of the line's section
   pub sections : List Section
-  pub section : ℕ
+  pub section : Name
   -- how many lines before select a section
   pub selections : ℕ
   pub radix : Radix
@@ -97,10 +99,30 @@ pub record Place : Type 0 where
 abbrev pub place_after : List UnfoldedLine → Place
 place_after before = record {
   sections = sections_after before;
-  section = index_of (last_set name_selected blank_name before) (sections_after before);
+  section = last_set name_selected blank_name before;
   selections = how_many selects before;
   radix = last_set radix_set Octal before;
   listed = how_many lists before;
   unlisted = how_many unlists before;
   shows_expansions = last_set expansions_set false before;
 }
+
+-- ---- the section at a place
+
+-- its number: how many sections come before it
+abbrev pub number : Place → ℕ
+number place = index_of place.section place.sections
+
+-- whether it is REL
+abbrev pub is_moved : Place → Bool
+is_moved place = is_relocatable (numbered (number place) place.sections)
+
+-- the kind of its locations
+abbrev pub kind_here : Place → Kind
+kind_here place = if is_moved place then kind.Section place.section else kind.Absolute
+
+-- whether a value of this kind is a location of the section; in an ABS section every absolute number is, and every register
+abbrev pub is_here : Place → Kind → Bool
+is_here place (kind.Section name) = is_same_name name place.section
+is_here place (kind.Reference name) = false
+is_here place other = not (is_moved place)

@@ -8,13 +8,13 @@ use Rattle.m11_asm_rules.specs.History.{SaysWhatTheySaid}
 use Rattle.m11_asm_rules.specs.Tables.{Table}
 use Rattle.m11_asm_rules.specs.declared.definitions.Key.{Key}
 use Rattle.m11_asm_rules.specs.declared.modes.Modes.{Modes}
-use Rattle.m11_asm_table_laws.specs.Places.{Place}
+use Rattle.m11_asm_table_laws.specs.Places.{Place, number}
 use Rattle.m11_asm_table_laws.specs.Said.{Said, block, counted, is_doubly_defined}
 
 -- the modes at a place
 abbrev pub modes_at : Place → Said → Modes
 modes_at place said = record {
-  section = place.section;
+  section = number place;
   block = block place said;
   radix = place.radix;
   listed = counted place.listed;

@@ -5,8 +5,8 @@ ghost use Rattle.m11_unfold_rules.specs.Unfolding.{UnfoldedLine};
 ghost use Rattle.m11_asm_rules.specs.History.{definitions_of, moves_of};
 ghost use Rattle.m11_asm_rules.specs.Meanings.{Map};
 ghost use Rattle.m11_asm_rules.specs.Placements.{table_after};
+ghost use Rattle.m11_asm_table_laws.specs.Lines.{said_by};
 ghost use Rattle.m11_asm_table_laws.specs.Places.{place_after};
-ghost use Rattle.m11_asm_table_laws.specs.Said.{said_by};
 ghost use Rattle.m11_asm_table_laws.specs.Tables.{Records};
 
 /// The table after some lines records what these lines say, read off the lines alone, and nothing else. A line stands in the section that the
