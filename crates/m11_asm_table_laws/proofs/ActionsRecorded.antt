@@ -2,7 +2,6 @@
 use Rattle.std.proofs.Common.{◌≡◌, ◌∙◌, ℕ, ◌+◌, ◌&&◌, not, Bool, true, false, if◌then◌else◌, List, ◌++◌, length, Option, Some, None, unwrap_or, refl, sym, ap, subst}
 use Rattle.m11_base.specs.Devices.{Bytes}
 use Rattle.m11_base.specs.Rad50.{Name}
-use Rattle.m11_scan.specs.declared.radix.Radix.{Radix}
 use Rattle.m11_asm_rules.specs.Actions.{Action, Assign, Entitle, Export, Identify, ListExpansions, MoveLevel, NoAction, Operate, Select, SetCounter, SetNumber, SetRadix, Store, Transfer}
 use Rattle.m11_asm_rules.specs.Assigning.{counter_value}
 use Rattle.m11_asm_rules.specs.Assignments as tables
@@ -28,20 +27,9 @@ use Rattle.m11_asm_table_laws.specs.Places.{Place, expansions_set, index_of, lis
 use Rattle.m11_asm_table_laws.specs.Said.{Said, also_defining, begins_block, doubly_defining, last_said, moving}
 use Rattle.m11_asm_table_laws.specs.Lines.{Assignment, after_action, also_exporting, assigned, assigning, assignment_by, by_assignment, by_export, move_by, moves_by, stepping}
 use Rattle.m11_asm_table_laws.specs.Tables.{modes_at}
-use Rattle.m11_asm_table_laws.proofs.Knowing.{Knows, Stands, counted_more, knows_also, knows_doubly, knows_exporting, knows_moving, knows_name_if, next_selection}
+use Rattle.m11_asm_table_laws.proofs.Knowing.{Knows, Agrees, counted_more, knows_also, knows_doubly, knows_exporting, knows_moving, knows_name_if, next_selection}
 use Rattle.m11_asm_table_laws.proofs.Selecting.{section_selected, sections_selected}
 use Rattle.m11_asm_table_laws.proofs.Values.{assigned_same}
-
-abbrev pub place_by : List Section → Name → ℕ → Radix → ℕ → ℕ → Bool → Place
-place_by sections name selections radix listed unlisted shows = record {
-  sections = sections;
-  section = name;
-  selections = selections;
-  radix = radix;
-  listed = listed;
-  unlisted = unlisted;
-  shows_expansions = shows;
-}
 
 -- ---- assignments
 
@@ -76,14 +64,9 @@ module _ (place : Place) (said : Said) (table : Table) (knows : Knows place said
 
 -- ---- actions
 
-module _ (map : Map) (sections : List Section) (name : Name) (selections : ℕ) (radix : Radix) (listed unlisted : ℕ) (shows : Bool)
-    (said : Said) (table : Table) (stands : Stands (place_by sections name selections radix listed unlisted shows) said table)
-    (line : Bytes) where
-  abbrev place : Place
-  place = place_by sections name selections radix listed unlisted shows
-
+module _ (map : Map) (place : Place) (said : Said) (table : Table) (agrees : Agrees place said table) (line : Bytes) where
   abbrev knows : Knows place said table
-  knows = stands.knows
+  knows = agrees.knows
 
   moved_known : (move : Move) (moves : List SectionMove) → Knows place (moving moves said) (changed map (Counts move) table)
   moved_known move moves = record {
@@ -99,8 +82,8 @@ module _ (map : Map) (sections : List Section) (name : Name) (selections : ℕ) 
   counter_by true location moves = moved_known (Goes location) moves
   counter_by false location moves = knows_moving place said table knows moves
 
-  -- modes that are set, if they are those at another place with the same sections
-  modes_known : (new : Modes) (next : Place) (moves : List SectionMove) → next.sections ≡ sections → new ≡ modes_at next said
+  -- modes that are set, if they are those at a place with the same sections
+  modes_known : (new : Modes) (next : Place) (moves : List SectionMove) → next.sections ≡ place.sections → new ≡ modes_at next said
       → Knows next (moving moves said) (changed map (Sets new) table)
   modes_known new next moves same_sections same_modes = record {
     definitions = knows.definitions;
@@ -110,33 +93,40 @@ module _ (map : Map) (sections : List Section) (name : Name) (selections : ℕ) 
     modes = same_modes;
   }
 
-  select_known : (selected : Name) (attributes : ℕ) (moves : List SectionMove)
-      → Knows
-      (place_by (with_selected sections (Some (section selected attributes))) selected (selections + 1) radix listed unlisted shows)
-      (moving moves said) (changed map (Selects selected attributes) table)
-  select_known selected attributes moves =
-      let number : unwrap_or (number_of selected table.sections) (length table.sections)
-      ≡ index_of selected (with_selected sections (Some (section selected attributes))) =
-      ap (λ (s : List Section). unwrap_or (number_of selected s) (length s)) knows.sections
-      ∙ section_selected selected attributes sections in
+  -- the place of the next line
+  abbrev after : Action → Place
+  after action = record {
+    sections = with_selected place.sections (selected_by action);
+    section = unwrap_or (name_selected action) place.section;
+    selections = if selects action then place.selections + 1 else place.selections;
+    radix = unwrap_or (radix_set action) place.radix;
+    listed = if lists action then place.listed + 1 else place.listed;
+    unlisted = if unlists action then place.unlisted + 1 else place.unlisted;
+    shows_expansions = unwrap_or (expansions_set action) place.shows_expansions;
+  }
+
+  abbrev after_selecting : Section → Place
+  after_selecting new =
+      record place { sections = with_selected place.sections (Some new); section = new.name; selections = place.selections + 1 }
+
+  select_known : (name : Name) (attributes : ℕ) (moves : List SectionMove)
+      → Knows (after_selecting (section name attributes)) (moving moves said) (changed map (Selects name attributes) table)
+  select_known name attributes moves =
+      let new : Section = section name attributes in
+      let found : unwrap_or (number_of name table.sections) (length table.sections) ≡ index_of name (with_selected place.sections (Some new)) =
+      ap (λ (s : List Section). unwrap_or (number_of name s) (length s)) knows.sections
+      ∙ section_selected name attributes place.sections in
       record {
         definitions = knows.definitions;
         doubly_defined = knows.doubly_defined;
         globals = knows.globals;
-        sections = ap (λ (s : List Section). with_new (number_of selected s) (section selected attributes) s) knows.sections
-            ∙ sections_selected selected attributes sections;
-        modes = ap (λ (m : Modes). in_number (unwrap_or (number_of selected table.sections) (length table.sections)) m) knows.modes
-            ∙ ap (λ (n : ℕ). in_number n (modes_at place said)) number
-            ∙ ap (λ (n : ℕ). record (modes_at place said) { section = index_of selected (with_selected sections (Some (section selected attributes))); block = n })
+        sections = ap (λ (s : List Section). with_new (number_of name s) new s) knows.sections
+            ∙ sections_selected name attributes place.sections;
+        modes = ap (in_number (unwrap_or (number_of name table.sections) (length table.sections))) knows.modes
+            ∙ ap (λ (n : ℕ). in_number n (modes_at place said)) found
+            ∙ ap (λ (n : ℕ). record (modes_at place said) { section = index_of name (with_selected place.sections (Some new)); block = n })
             (next_selection place said);
       }
-
-  abbrev after : Action → Place
-  after action =
-      place_by (with_selected sections (selected_by action)) (unwrap_or (name_selected action) name)
-      (if selects action then selections + 1 else selections) (unwrap_or (radix_set action) radix)
-      (if lists action then listed + 1 else listed) (if unlists action then unlisted + 1 else unlisted)
-      (unwrap_or (expansions_set action) shows)
 
   pub action_known : (action : Action)
       → Knows (after action) (after_action map place line action said) (changed map (change_of (firm_table table) line action) table)
@@ -145,14 +135,14 @@ module _ (map : Map) (sections : List Section) (name : Name) (selections : ℕ) 
   action_known (Assign (Some assigned_name) is_global tokens) =
       knows_moving place _ _
       (assignment_known place said table knows assigned_name is_global (tables.assigned map table tokens) (assigned map place said tokens)
-      (assigned_same place said table stands map tokens) refl) _
+      (assigned_same place said table agrees map tokens) refl) _
   action_known (SetNumber assigned_name number) =
       knows_moving place _ _
       (assignment_known place said table knows assigned_name false (numbered number) (numbered number) refl refl) _
   action_known (SetCounter tokens) =
       counter_by (relocations.is_here (firm_table table) (counter_value (firm_table table) tokens).kind)
       (counter_value (firm_table table) tokens).number _
-  action_known (Select selected bits attributes) = select_known selected (with_attributes bits attributes) _
+  action_known (Select name bits attributes) = select_known name (with_attributes bits attributes) _
   action_known (Export is_weak names) =
       knows_moving place _ (with_globals names table) (knows_exporting place said table knows names) _
   action_known (SetRadix new) =
@@ -161,11 +151,11 @@ module _ (map : Map) (sections : List Section) (name : Name) (selections : ℕ) 
   action_known (MoveLevel true) =
       modes_known (record table.modes { listed = one_more table.modes.listed }) (after (MoveLevel true)) _ refl
       (ap (λ (m : Modes). record m { listed = one_more m.listed }) knows.modes
-      ∙ ap (λ (n : ℕ). record (modes_at place said) { listed = n }) (counted_more listed))
+      ∙ ap (λ (n : ℕ). record (modes_at place said) { listed = n }) (counted_more place.listed))
   action_known (MoveLevel false) =
       modes_known (record table.modes { unlisted = one_more table.modes.unlisted }) (after (MoveLevel false)) _ refl
       (ap (λ (m : Modes). record m { unlisted = one_more m.unlisted }) knows.modes
-      ∙ ap (λ (n : ℕ). record (modes_at place said) { unlisted = n }) (counted_more unlisted))
+      ∙ ap (λ (n : ℕ). record (modes_at place said) { unlisted = n }) (counted_more place.unlisted))
   action_known (ListExpansions are_listed) =
       modes_known (record table.modes { shows_expansions = are_listed }) (after (ListExpansions are_listed)) _ refl
       (ap (λ (m : Modes). record m { shows_expansions = are_listed }) knows.modes)

@@ -24,11 +24,11 @@ use Rattle.m11_asm_rules.specs.declared.definitions.Key.TheVariants.{Named, Numb
 use Rattle.m11_asm_table_laws.specs.Places.{Place}
 use Rattle.m11_asm_table_laws.specs.Said.{Said, block, doubly_defining}
 use Rattle.m11_asm_table_laws.specs.Lines.{after_action, after_labels, also_exporting, assigned, assigning, by_assignment, by_label, is_global_label, label_key, labelled, with_label}
-use Rattle.m11_asm_table_laws.proofs.Knowing.{Stands, block_known}
-use Rattle.m11_asm_table_laws.proofs.LabelsRecorded.{label_same, label_stands}
+use Rattle.m11_asm_table_laws.proofs.Knowing.{Agrees, block_known}
+use Rattle.m11_asm_table_laws.proofs.LabelsRecorded.{label_same, label_agrees}
 use Rattle.m11_asm_table_laws.proofs.Values.{assigned_same}
 
-module _ (place : Place) (said : Said) (table : Table) (stands : Stands place said table) where
+module _ (place : Place) (said : Said) (table : Table) (agrees : Agrees place said table) where
   none_more : said.definitions ≡ said.definitions ++ []
   none_more = sym (append-nil said.definitions)
 
@@ -44,9 +44,9 @@ module _ (place : Place) (said : Said) (table : Table) (stands : Stands place sa
       → (by_label is_global (labelled place said) said (Some key)).definitions ≡ said.definitions ++ key_definitions table key
   key_defined is_global key =
       ap (λ (b : Bool). (if b then doubly_defining key said else also_exporting is_global key (labelled place said) said).definitions)
-      (sym (ap is_some (stands.knows.definitions key)))
+      (sym (ap is_some (agrees.knows.definitions key)))
       ∙ defined_by (is_defined key table.definitions) is_global key (tables.labelled table) (labelled place said)
-      (label_same place said table stands)
+      (label_same place said table agrees)
 
   label_defined : (name : Option Name) (kind : LabelKind)
       → (by_label (is_global_label kind) (labelled place said) said (label_key (block place said) name kind)).definitions
@@ -57,7 +57,7 @@ module _ (place : Place) (said : Said) (table : Table) (stands : Stands place sa
   label_defined (Some name) label.Global = key_defined true (Named name)
   label_defined name (label.Local number) =
       key_defined false (Numbered (block place said) number)
-      ∙ ap (λ (n : ℕ). said.definitions ++ key_definitions table (Numbered n number)) (sym (block_known place said table stands.knows))
+      ∙ ap (λ (n : ℕ). said.definitions ++ key_definitions table (Numbered n number)) (sym (block_known place said table agrees.knows))
   label_defined name label.Outside = none_more
 
   -- ---- an action
@@ -66,7 +66,7 @@ module _ (place : Place) (said : Said) (table : Table) (stands : Stands place sa
       → (by_assignment said (Some (assigning is_global other name))).definitions ≡ said.definitions ++ name_definition table name one
   assignment_defined is_global one other name same =
       ap (λ (b : Bool). (if b then doubly_defining (Named name) said else also_exporting is_global (Named name) other said).definitions)
-      (sym (ap is_of_label (stands.knows.definitions (Named name))))
+      (sym (ap is_of_label (agrees.knows.definitions (Named name))))
       ∙ defined_by (is_labelled (Named name) table.definitions) is_global (Named name) one other same
 
   -- setting the counter defines nothing, whether the counter is set or not
@@ -81,7 +81,7 @@ module _ (place : Place) (said : Said) (table : Table) (stands : Stands place sa
   action_defined map line (Assign None is_global tokens) = none_more
   action_defined map line (Assign (Some name) is_global tokens) =
       assignment_defined is_global (tables_assigned.assigned map table tokens) (assigned map place said tokens) name
-      (assigned_same place said table stands map tokens)
+      (assigned_same place said table agrees map tokens)
   action_defined map line (SetNumber name number) = assignment_defined false (numbered number) (numbered number) name refl
   action_defined map line (SetCounter tokens) =
       set_defines map (is_here (firm_table table) (counter_value (firm_table table) tokens).kind)
@@ -90,17 +90,17 @@ module _ (place : Place) (said : Said) (table : Table) (stands : Stands place sa
 
 -- ---- the labels of a line
 
-all_defined : (place : Place) (line : Bytes) (said : Said) (table : Table) (labels : List Label) → Stands place said table
+all_defined : (place : Place) (line : Bytes) (said : Said) (table : Table) (labels : List Label) → Agrees place said table
     → (fold (with_label place line) said labels).definitions ≡ said.definitions ++ labels_definitions line table labels
-all_defined place line said table [] stands = none_more place said table stands
-all_defined place line said table (named ∷ labels) stands =
+all_defined place line said table [] agrees = none_more place said table agrees
+all_defined place line said table (named ∷ labels) agrees =
     all_defined place line (with_label place line said named) (tables.with_label line table named) labels
-    (label_stands place line said table named stands)
+    (label_agrees place line said table named agrees)
     ∙ ap (λ (l : List KeyDefinition). l ++ labels_definitions line (tables.with_label line table named) labels)
-    (label_defined place said table stands (tables.label_name line named) named.kind)
+    (label_defined place said table agrees (tables.label_name line named) named.kind)
     ∙ append_assoc said.definitions (label_definitions table (tables.label_name line named) named.kind)
     (labels_definitions line (tables.with_label line table named) labels)
 
-pub labels_defined : (place : Place) (line : Bytes) (said : Said) (table : Table) → Stands place said table
+pub labels_defined : (place : Place) (line : Bytes) (said : Said) (table : Table) → Agrees place said table
     → (after_labels place line said).definitions ≡ said.definitions ++ labels_definitions line table (labels_at line)
-labels_defined place line said table stands = all_defined place line said table (labels_at line) stands
+labels_defined place line said table agrees = all_defined place line said table (labels_at line) agrees

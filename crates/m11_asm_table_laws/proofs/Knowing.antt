@@ -1,4 +1,4 @@
--- What a table knows of what has been said, apart from counters and sizes; and one more definition, or one more key doubly defined.
+-- What a table knows of what has been said, and what it knows after one more definition, one more key doubly defined or more global names.
 use Rattle.std.proofs.Common.{◌≡◌, ◌∙◌, ℕ, ◌+◌, ◌-◌, ◌^◌, ◌||◌, min, Bool, true, false, cond, if◌then◌else◌, List, [], ◌∷◌, ◌++◌, append-nil, Option, Some, count_by, refl, sym, ap, subst, arith}
 use Rattle.std.specs.List.{list_any}
 use Rattle.std.proofs.lemmas.List.Folds.{list_any-append}
@@ -23,6 +23,7 @@ use Rattle.m11_asm_table_laws.specs.Lines.{name_if}
 use Rattle.m11_asm_table_laws.specs.Tables.{modes_at}
 use Rattle.m11_asm_rules.specs.declared.modes.Modes.{Modes}
 
+-- a table has what has been said, apart from counters and sizes
 pub record Knows (place : Place) (said : Said) (table : Table) : Type 0 where
   pub definitions : (key : Key) → last_definition key table.definitions ≡ last_said key said
   pub doubly_defined : (key : Key) → has_key key table.doubly_defined ≡ is_doubly_defined key said
@@ -31,7 +32,7 @@ pub record Knows (place : Place) (said : Said) (table : Table) : Type 0 where
   pub modes : table.modes ≡ modes_at place said
 
 -- and each counter is the one after the moves so far, and the section of the next line has its name
-pub record Stands (place : Place) (said : Said) (table : Table) : Type 0 where
+pub record Agrees (place : Place) (said : Said) (table : Table) : Type 0 where
   pub knows : Knows place said table
   pub named : (numbered (number place) place.sections).name ≡ place.section
   pub counters : (section : ℕ) → location_of section table ≡ location_in section said.moves
@@ -42,6 +43,15 @@ last_joined : (key : Key) (before : Option Definition) (first second : List KeyD
     → last_of key before (first ++ second) ≡ last_of key (last_of key before first) second
 last_joined key before [] second = refl
 last_joined key before (one ∷ first) second = last_joined key (if is_same one.key key then Some one.definition else before) first second
+
+or_false : (b : Bool) → b ≡ (b || false)
+or_false true = refl
+or_false false = refl
+
+or_once : (b c : Bool) → (b || (c || false)) ≡ (b || c)
+or_once true c = refl
+or_once false true = refl
+or_once false false = refl
 
 or_itself : (found is_asked : Bool) → (is_asked ≡ true → found ≡ true) → found ≡ (found || is_asked)
 or_itself true is_asked known = refl
@@ -54,11 +64,8 @@ found_by : (is_known is_asked found : Bool) → (is_known ≡ true → is_asked 
 found_by true is_asked found known names asked new f a =
     or_itself (list_any (is_same_name asked) names) (is_same_name asked new) (λ e. f ∙ known refl (sym a ∙ e))
 found_by false is_asked found known names asked new f a =
-    list_any-append (is_same_name asked) names (new ∷ []) ∙ ap (λ (b : Bool). list_any (is_same_name asked) names || b) (or_nothing (is_same_name asked new))
-  where
-    or_nothing : (b : Bool) → (b || false) ≡ b
-    or_nothing true = refl
-    or_nothing false = refl
+    list_any-append (is_same_name asked) names (new ∷ [])
+    ∙ ap (λ (b : Bool). list_any (is_same_name asked) names || b) (sym (or_false (is_same_name asked new)))
 
 -- a name is in a list with one more name, if it is in the list or is that name
 found_more : (names : List Name) (asked new : Name)
@@ -67,25 +74,14 @@ found_more names asked new =
     found_by (list_any (is_same_name new) names) (is_same_name asked new) (list_any (is_same_name asked) names)
     (λ known same. ap (λ (n : Name). list_any (is_same_name n) names) (same_name_equal asked new same) ∙ known) names asked new refl refl
 
-or_false : (b : Bool) → b ≡ (b || false)
-or_false true = refl
-or_false false = refl
-
+-- the same of a key in a set of keys
 key_more : (asked new : Key) (keys : Keys) → has_key asked (with_one new keys) ≡ (has_key asked keys || is_same asked new)
 key_more (Named asked) (Named new) keys = found_more keys.names asked new
 key_more (Named asked) (Numbered block number) keys = or_false (list_any (is_same_name asked) keys.names)
 key_more (Numbered asked_block asked) (Named new) keys = or_false (list_any (is_same_name (asked_block, asked)) keys.local_symbols)
 key_more (Numbered asked_block asked) (Numbered block number) keys = found_more keys.local_symbols (asked_block, asked) (block, number)
 
-or_once : (b c : Bool) → (b || (c || false)) ≡ (b || c)
-or_once true c = refl
-or_once false true = refl
-or_once false false = refl
-
--- ---- counts
-
-no_more : (most count : ℕ) → min count most ≡ min (count + 0) most
-no_more most count = omega arith
+-- ---- counts in 64 bits
 
 one_more_counted : (most count : ℕ) → min (min count most + 1) most ≡ min (count + 1) most
 one_more_counted most count = omega arith
@@ -131,7 +127,7 @@ module _ (place : Place) (said : Said) (key : Key) (definition : Definition) whe
       ∙ joined (2 ^ 64 - 1) place.selections (blocks said.definitions)
       ∙ ap (λ (n : ℕ). counted (place.selections + n)) (begun true begins)
 
--- ---- steps
+-- ---- one more
 
 module _ (place : Place) (said : Said) (table : Table) (knows : Knows place said table) where
   pub section_known : table.modes.section ≡ number place

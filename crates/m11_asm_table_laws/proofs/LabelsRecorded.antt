@@ -22,16 +22,16 @@ use Rattle.m11_asm_rules.specs.Tables.{Table, location_of}
 use Rattle.m11_asm_table_laws.specs.Places.{Place, is_moved, kind_here, number}
 use Rattle.m11_asm_table_laws.specs.Said.{Said, also_defining, block, doubly_defining, last_said, location}
 use Rattle.m11_asm_table_laws.specs.Lines.{after_labels, also_exporting, by_label, is_global_label, label_key, labelled, with_label}
-use Rattle.m11_asm_table_laws.proofs.Knowing.{Knows, Stands, knows_also, block_known, knows_doubly, knows_name_if, knows_next, knows_no_names, section_known}
+use Rattle.m11_asm_table_laws.proofs.Knowing.{Knows, Agrees, knows_also, block_known, knows_doubly, knows_name_if, knows_next, knows_no_names, section_known}
 
 -- ---- the section and the location of a line
 
-module _ (place : Place) (said : Said) (table : Table) (stands : Stands place said table) where
+module _ (place : Place) (said : Said) (table : Table) (agrees : Agrees place said table) where
   knows : Knows place said table
-  knows = stands.knows
+  knows = agrees.knows
 
   pub location_same : tables_before.location table ≡ location place said
-  location_same = stands.counters table.modes.section ∙ ap (λ (n : ℕ). location_in n said.moves) (section_known place said table knows)
+  location_same = agrees.counters table.modes.section ∙ ap (λ (n : ℕ). location_in n said.moves) (section_known place said table knows)
 
   pub section_same : numbered table.modes.section table.sections ≡ numbered (number place) place.sections
   section_same =
@@ -39,12 +39,12 @@ module _ (place : Place) (said : Said) (table : Table) (stands : Stands place sa
       ∙ ap (λ (s : List Section). numbered (number place) s) knows.sections
 
   pub name_same : tables_before.section_name table ≡ place.section
-  name_same = ap (λ (s : Section). s.name) section_same ∙ stands.named
+  name_same = ap (λ (s : Section). s.name) section_same ∙ agrees.named
 
   pub kind_same : tables_before.kind_here table ≡ kind_here place
   kind_same =
       ap (λ (s : Section). if is_relocatable s then kind.Section s.name else kind.Absolute) section_same
-      ∙ ap (λ (n : Name). if is_moved place then kind.Section n else kind.Absolute) stands.named
+      ∙ ap (λ (n : Name). if is_moved place then kind.Section n else kind.Absolute) agrees.named
 
   pub label_same : tables.labelled table ≡ labelled place said
   label_same =
@@ -146,28 +146,28 @@ label_moves is_global definition said (Some key) = moves_by (is_some (last_said 
 
 -- ---- all labels of a line
 
-pub label_stands : (place : Place) (line : Bytes) (said : Said) (table : Table) (named : Label) → Stands place said table
-    → Stands place (with_label place line said named) (tables.with_label line table named)
-label_stands place line said table named stands = record {
-  knows = kind_known place said table stands (tables.label_name line named) named.kind;
-  named = stands.named;
+pub label_agrees : (place : Place) (line : Bytes) (said : Said) (table : Table) (named : Label) → Agrees place said table
+    → Agrees place (with_label place line said named) (tables.with_label line table named)
+label_agrees place line said table named agrees = record {
+  knows = kind_known place said table agrees (tables.label_name line named) named.kind;
+  named = agrees.named;
   counters = λ section.
       ap (λ (l : List ℕ). get_or l section 0) (kind_counters table (tables.label_name line named) named.kind)
-      ∙ stands.counters section
+      ∙ agrees.counters section
       ∙ ap (λ (m : List SectionMove). location_in section m)
       (sym (label_moves (is_global_label named.kind) (labelled place said) said (label_key (block place said) (tables.label_name line named) named.kind)));
 }
 
-all_stand : (place : Place) (line : Bytes) (said : Said) (table : Table) (labels : List Label) → Stands place said table
-    → Stands place (fold (with_label place line) said labels) (tables.with_labels line table labels)
-all_stand place line said table [] stands = stands
-all_stand place line said table (named ∷ labels) stands =
-    all_stand place line (with_label place line said named) (tables.with_label line table named) labels
-    (label_stands place line said table named stands)
+all_agree : (place : Place) (line : Bytes) (said : Said) (table : Table) (labels : List Label) → Agrees place said table
+    → Agrees place (fold (with_label place line) said labels) (tables.with_labels line table labels)
+all_agree place line said table [] agrees = agrees
+all_agree place line said table (named ∷ labels) agrees =
+    all_agree place line (with_label place line said named) (tables.with_label line table named) labels
+    (label_agrees place line said table named agrees)
 
-pub labels_stand : (place : Place) (line : Bytes) (said : Said) (table : Table) → Stands place said table
-    → Stands place (after_labels place line said) (tables.after_labels_in table line)
-labels_stand place line said table stands = all_stand place line said table (labels_at line) stands
+pub labels_agree : (place : Place) (line : Bytes) (said : Said) (table : Table) → Agrees place said table
+    → Agrees place (after_labels place line said) (tables.after_labels_in table line)
+labels_agree place line said table agrees = all_agree place line said table (labels_at line) agrees
 
 all_moves : (place : Place) (line : Bytes) (said : Said) (labels : List Label)
     → (fold (with_label place line) said labels).moves ≡ said.moves

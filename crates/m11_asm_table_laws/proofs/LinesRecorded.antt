@@ -1,9 +1,8 @@
 -- After each line of a source, the table records what the lines so far say.
-use Rattle.std.proofs.Common.{◌≡◌, ◌∙◌, ℕ, true, false, List, [], ◌∷◌, ◌++◌, append_assoc, append-nil, reverse, Option, refl, sym, ap, subst}
+use Rattle.std.proofs.Common.{◌≡◌, ◌∙◌, ℕ, true, List, [], ◌∷◌, ◌++◌, append_assoc, append-nil, reverse, Option, refl, sym, ap, subst}
 use Rattle.std.specs.Prelude.{unwrap_or}
 use Rattle.std.proofs.lemmas.List.{reverse-append, reverse-reverse}
 use Rattle.std.proofs.lemmas.List.Sums.{fold-append}
-use Rattle.m11_scan.specs.declared.radix.Radix.TheVariants.{Octal}
 use Rattle.m11_base.specs.Devices.{Bytes}
 use Rattle.m11_scan_statements.specs.Labels.{labels_at}
 use Rattle.m11_base.specs.Names.{blank_name}
@@ -21,14 +20,14 @@ use Rattle.m11_asm_rules.specs.Placements.{after_lines, table_after}
 use Rattle.m11_asm_rules.specs.Sections.{numbered, of_absolute, of_program, section}
 use Rattle.m11_asm_rules.specs.Tables.{Table, firm_table, first_modes, first_table, location_of}
 use Rattle.m11_asm_rules.proofs.History.{says}
-use Rattle.m11_asm_table_laws.specs.Places.{action_in, expansions_set, has_section, how_many, index_of, last_set, lists, name_selected, number, place_after, radix_set, sections_after, selected_by, selects, unlists}
+use Rattle.m11_asm_table_laws.specs.Places.{action_in, has_section, index_of, number, place_after, sections_after, selected_by}
 use Rattle.m11_asm_table_laws.specs.Said.{Said, is_doubly_defined, nothing_said}
 use Rattle.m11_asm_table_laws.specs.Lines.{after_labels, move_by, moves_by, said_by}
 use Rattle.m11_asm_table_laws.specs.Tables.{Records}
 use Rattle.m11_asm_table_laws.proofs.ActionsRecorded.{action_known, action_moves}
 use Rattle.m11_asm_table_laws.proofs.DefinitionsSaid.{action_defined, labels_defined}
-use Rattle.m11_asm_table_laws.proofs.Knowing.{Knows, Stands}
-use Rattle.m11_asm_table_laws.proofs.LabelsRecorded.{labels_moves, labels_stand}
+use Rattle.m11_asm_table_laws.proofs.Knowing.{Knows, Agrees}
+use Rattle.m11_asm_table_laws.proofs.LabelsRecorded.{labels_moves, labels_agree}
 use Rattle.m11_asm_table_laws.proofs.Selecting.{found_name, found_selected}
 use Rattle.m11_asm_table_laws.proofs.Values.{moves_same}
 
@@ -133,19 +132,19 @@ module _ (map : Map) (before : List UnfoldedLine) (so_far : KnowsLines map befor
   abbrev labels_said : UnfoldedLine → Said
   labels_said given = after_labels (place_after before) given.live.line.text (said_by map before)
 
-  before_stands : Stands (place_after before) (said_by map before) (table_by map before)
-  before_stands = record { knows = so_far.knows; named = current_named before; counters = counters_known }
+  before_agrees : Agrees (place_after before) (said_by map before) (table_by map before)
+  before_agrees = record { knows = so_far.knows; named = current_named before; counters = counters_known }
 
-  line_stands : (given : UnfoldedLine) → Stands (place_after before) (labels_said given) (stands (table_by map before) given)
-  line_stands given =
-      labels_stand (place_after before) given.live.line.text (said_by map before) (table_by map before) before_stands
+  line_agrees : (given : UnfoldedLine) → Agrees (place_after before) (labels_said given) (stands (table_by map before) given)
+  line_agrees given =
+      labels_agree (place_after before) given.live.line.text (said_by map before) (table_by map before) before_agrees
 
   line_moves_known : (given : UnfoldedLine)
       → line_moves (table_by map before) given
       ≡ moves_by (place_after before) (move_by (place_after before) (labels_said given) given.live.line.text (action_in given))
   unfolding line_change action_in
   line_moves_known given =
-      moves_same (place_after before) (labels_said given) (stands (table_by map before) given) (line_stands given)
+      moves_same (place_after before) (labels_said given) (stands (table_by map before) given) (line_agrees given)
       given.live.line.text (action_in given)
 
   line_defined : (given : UnfoldedLine)
@@ -155,9 +154,9 @@ module _ (map : Map) (before : List UnfoldedLine) (so_far : KnowsLines map befor
   line_defined given =
       let line : Bytes = given.live.line.text in
       let stood : Table = stands (table_by map before) given in
-      action_defined (place_after before) (labels_said given) stood (line_stands given) map line (action_in given)
+      action_defined (place_after before) (labels_said given) stood (line_agrees given) map line (action_in given)
       ∙ ap (λ (d : List KeyDefinition). d ++ change_definitions map stood (change_of (firm_table stood) line (action_in given)))
-      (labels_defined (place_after before) line (said_by map before) (table_by map before) before_stands)
+      (labels_defined (place_after before) line (said_by map before) (table_by map before) before_agrees)
       ∙ append_assoc (said_by map before).definitions (labels_definitions line (table_by map before) (labels_at line))
       (change_definitions map stood (change_of (firm_table stood) line (action_in given)))
 
@@ -165,9 +164,7 @@ module _ (map : Map) (before : List UnfoldedLine) (so_far : KnowsLines map befor
       → Knows (place_after (given ∷ before)) (said_by map (given ∷ before)) (after_line map (table_by map before) given)
   unfolding line_change action_in
   line_known given =
-      action_known map (sections_after before) (last_set name_selected blank_name before) (how_many selects before)
-      (last_set radix_set Octal before) (how_many lists before) (how_many unlists before) (last_set expansions_set false before)
-      (labels_said given) (stands (table_by map before) given) (line_stands given) given.live.line.text (action_in given)
+      action_known map (place_after before) (labels_said given) (stands (table_by map before) given) (line_agrees given) given.live.line.text (action_in given)
 
   one_more_known : (given : UnfoldedLine) → KnowsLines map (given ∷ before)
   one_more_known given = record {

@@ -41,7 +41,7 @@ use Rattle.m11_asm_table_laws.specs.Places.{Place, is_here, number}
 use Rattle.m11_asm_table_laws.specs.Said.{Said, block, is_doubly_defined, last_said, location}
 use Rattle.m11_asm_table_laws.specs.Symbols.{firm, firm_meaning, given_by, is_firm, known, meaning, symbol_value, unknown}
 use Rattle.m11_asm_table_laws.specs.Lines.{assigned, move_by, moves_by, size, stepping}
-use Rattle.m11_asm_table_laws.proofs.Knowing.{Stands, block_known, radix_known, section_known}
+use Rattle.m11_asm_table_laws.proofs.Knowing.{Agrees, block_known, radix_known, section_known}
 use Rattle.m11_asm_table_laws.proofs.LabelsRecorded.{kind_same, location_same, name_same, section_same}
 
 equal_functions : {A B : Type 0} {f g : A → B} → ((a : A) → f a ≡ g a) → f ≡ g
@@ -69,7 +69,7 @@ last_twice : (key : Key) (definitions : Definitions)
 last_twice key definitions =
     last_firm key (firm_parts definitions) ∙ ap firm_option (last_firm key definitions) ∙ twice_firm (last_definition key definitions)
 
-module _ (place : Place) (said : Said) (table : Table) (stands : Stands place said table) where
+module _ (place : Place) (said : Said) (table : Table) (agrees : Agrees place said table) where
   abbrev twice : Table
   twice = firm_table (firm_table table)
 
@@ -77,14 +77,14 @@ module _ (place : Place) (said : Said) (table : Table) (stands : Stands place sa
       → defined_or key table.doubly_defined one first ≡ given_by (is_doubly_defined key said) other second
   by_last key one other first second e f =
       given_too key table.doubly_defined one first
-      ∙ ap (λ (b : Bool). given_by b one first) (stands.knows.doubly_defined key)
+      ∙ ap (λ (b : Bool). given_by b one first) (agrees.knows.doubly_defined key)
       ∙ ap (λ (q : Quantity). given_by (is_doubly_defined key said) q first) e
       ∙ ap (given_by (is_doubly_defined key said) other) f
 
   meaning_same : (map : Map) (key : Key) → meaning_of map unknown table key ≡ meaning map said key
   meaning_same map key =
       by_last key _ _ _ _ (given_too key map.doubly_defined unknown (last_definition key map.definitions))
-      (stands.knows.definitions key)
+      (agrees.knows.definitions key)
 
   nothing_else : (key : Key) → defined_or key empty_map.doubly_defined unknown (last_definition key empty_map.definitions) ≡ unknown
   nothing_else (Named name) = refl
@@ -93,7 +93,7 @@ module _ (place : Place) (said : Said) (table : Table) (stands : Stands place sa
   firm_meaning_same : (key : Key) → meaning_of empty_map unknown twice key ≡ firm_meaning said key
   firm_meaning_same key =
       by_last key _ _ _ _ (nothing_else key)
-      (last_twice key table.definitions ∙ ap (option_map firm_part) (stands.knows.definitions key))
+      (last_twice key table.definitions ∙ ap (option_map firm_part) (agrees.knows.definitions key))
 
   -- ---- symbols
 
@@ -102,36 +102,36 @@ module _ (place : Place) (said : Said) (table : Table) (stands : Stands place sa
   symbol_same map here (symbol.Ordinary name) = meaning_same map (Named name)
   symbol_same map here (symbol.Local number) =
       meaning_same map (Numbered table.modes.block number)
-      ∙ ap (λ (n : ℕ). meaning map said (Numbered n number)) (block_known place said table stands.knows)
+      ∙ ap (λ (n : ℕ). meaning map said (Numbered n number)) (block_known place said table agrees.knows)
   symbol_same map here symbol.Counter =
-      ap (λ (k : Kind). record { number = here; kind = k; flags = 0 }) (kind_same place said table stands)
+      ap (λ (k : Kind). record { number = here; kind = k; flags = 0 }) (kind_same place said table agrees)
 
   firm_symbol_same : (here : ℕ) (symbol : Symbol)
       → value_of_symbol empty_map LocalOnly twice here symbol ≡ symbol_value place said here (firm_meaning said) symbol
   firm_symbol_same here (symbol.Ordinary name) = firm_meaning_same (Named name)
   firm_symbol_same here (symbol.Local number) =
       firm_meaning_same (Numbered table.modes.block number)
-      ∙ ap (λ (n : ℕ). firm_meaning said (Numbered n number)) (block_known place said table stands.knows)
+      ∙ ap (λ (n : ℕ). firm_meaning said (Numbered n number)) (block_known place said table agrees.knows)
   firm_symbol_same here symbol.Counter =
-      ap (λ (k : Kind). record { number = here; kind = k; flags = 0 }) (kind_same place said table stands)
+      ap (λ (k : Kind). record { number = here; kind = k; flags = 0 }) (kind_same place said table agrees)
 
   known_same : (map : Map) (here : ℕ) → known_at map LocalOnly table here ≡ known place said here (meaning map said)
   known_same map here =
-      ap (λ (r : Radix). known_by r (value_of_symbol map LocalOnly table here)) (radix_known place said table stands.knows)
+      ap (λ (r : Radix). known_by r (value_of_symbol map LocalOnly table here)) (radix_known place said table agrees.knows)
       ∙ ap (known_by place.radix) (equal_functions (symbol_same map here))
 
   firm_same : (here : ℕ) → known_at empty_map LocalOnly twice here ≡ firm place said here
   firm_same here =
-      ap (λ (r : Radix). known_by r (value_of_symbol empty_map LocalOnly twice here)) (radix_known place said table stands.knows)
+      ap (λ (r : Radix). known_by r (value_of_symbol empty_map LocalOnly twice here)) (radix_known place said table agrees.knows)
       ∙ ap (known_by place.radix) (equal_functions (firm_symbol_same here))
 
   -- ---- assignments
 
   is_firm_same : (symbol : Symbol) → meanings.is_firm table symbol ≡ is_firm place said symbol
-  is_firm_same (symbol.Ordinary name) = ap is_firm_in (stands.knows.definitions (Named name))
+  is_firm_same (symbol.Ordinary name) = ap is_firm_in (agrees.knows.definitions (Named name))
   is_firm_same (symbol.Local number) =
-      ap is_firm_in (stands.knows.definitions (Numbered table.modes.block number))
-      ∙ ap (λ (n : ℕ). is_firm_in (last_said (Numbered n number) said)) (block_known place said table stands.knows)
+      ap is_firm_in (agrees.knows.definitions (Numbered table.modes.block number))
+      ∙ ap (λ (n : ℕ). is_firm_in (last_said (Numbered n number) said)) (block_known place said table agrees.knows)
   is_firm_same symbol.Counter = refl
 
   abbrev assigning : KnownSymbols → Bool → Expression → Definition
@@ -139,7 +139,7 @@ module _ (place : Place) (said : Said) (table : Table) (stands : Stands place sa
 
   pub assigned_same : (map : Map) (tokens : Expression) → tables.assigned map table tokens ≡ assigned map place said tokens
   assigned_same map tokens =
-      ap (λ (n : ℕ). assigning (known_at map LocalOnly table n) (tables.all_firm table (symbols tokens)) tokens) (location_same place said table stands)
+      ap (λ (n : ℕ). assigning (known_at map LocalOnly table n) (tables.all_firm table (symbols tokens)) tokens) (location_same place said table agrees)
       ∙ ap (λ (k : KnownSymbols). assigning k (tables.all_firm table (symbols tokens)) tokens) (known_same map (location place said))
       ∙ ap (λ (f : Symbol → Bool). assigning (known place said (location place said) (meaning map said)) (list_all f (symbols tokens)) tokens)
       (equal_functions is_firm_same)
@@ -156,9 +156,9 @@ module _ (place : Place) (said : Said) (table : Table) (stands : Stands place sa
   size_same here (AlignTo is_even) = refl
 
   is_here_same : (kind : Kind) → relocations.is_here (firm_table table) kind ≡ is_here place kind
-  is_here_same kind.Absolute = ap (λ (s : Section). not (is_relocatable s)) (section_same place said table stands)
-  is_here_same kind.Register = ap (λ (s : Section). not (is_relocatable s)) (section_same place said table stands)
-  is_here_same (kind.Section name) = ap (is_same_name name) (name_same place said table stands)
+  is_here_same kind.Absolute = ap (λ (s : Section). not (is_relocatable s)) (section_same place said table agrees)
+  is_here_same kind.Register = ap (λ (s : Section). not (is_relocatable s)) (section_same place said table agrees)
+  is_here_same (kind.Section name) = ap (is_same_name name) (name_same place said table agrees)
   is_here_same (kind.Reference name) = refl
 
   abbrev setting : Bool → ℕ → Option Move
@@ -167,21 +167,21 @@ module _ (place : Place) (said : Said) (table : Table) (stands : Stands place sa
   -- the moves by a change of the counter, if it is made
   set_by : (is_here : Bool) (number : ℕ)
       → change_moves table.modes.section (if is_here then Counts (Goes number) else Keeps) ≡ moves_by place (setting is_here number)
-  set_by true number = ap (λ (n : ℕ). in_section n (Goes number) ∷ []) (section_known place said table stands.knows)
+  set_by true number = ap (λ (n : ℕ). in_section n (Goes number) ∷ []) (section_known place said table agrees.knows)
   set_by false number = refl
 
   counter_same : (tokens : Expression)
       → value (known_at empty_map LocalOnly twice (tables_before.location table)) tokens ≡ value (firm place said (location place said)) tokens
   counter_same tokens =
-      ap (λ (n : ℕ). value (known_at empty_map LocalOnly twice n) tokens) (location_same place said table stands)
+      ap (λ (n : ℕ). value (known_at empty_map LocalOnly twice n) tokens) (location_same place said table agrees)
       ∙ ap (λ (k : KnownSymbols). value k tokens) (firm_same (location place said))
 
   steps_same : (is_even : Bool) (one other : ℕ → ℕ) → ((here : ℕ) → one here ≡ other here)
       → change_moves table.modes.section (Counts (stepping is_even (tables_before.location table) one))
       ≡ moves_by place (Some (stepping is_even (location place said) other))
   steps_same is_even one other same =
-      ap (λ (n : ℕ). in_section n (stepping is_even (tables_before.location table) one) ∷ []) (section_known place said table stands.knows)
-      ∙ ap (λ (n : ℕ). in_section (number place) (stepping is_even n one) ∷ []) (location_same place said table stands)
+      ap (λ (n : ℕ). in_section n (stepping is_even (tables_before.location table) one) ∷ []) (section_known place said table agrees.knows)
+      ∙ ap (λ (n : ℕ). in_section (number place) (stepping is_even n one) ∷ []) (location_same place said table agrees)
       ∙ ap (λ (f : ℕ → ℕ). in_section (number place) (stepping is_even (location place said) f) ∷ []) (equal_functions same)
 
   pub moves_same : (line : Bytes) (action : Action)
