@@ -8,7 +8,8 @@ use Rattle.m11_base.specs.declared.operand.Register.TheVariants.{R0, R1, R2, R3,
 use Rattle.m11_base_disassembly.specs.Arguments.{Argument}
 use Rattle.m11_base_disassembly.specs.Arguments as argument
 use Rattle.m11_base_disassembly.specs.Numbers.{number_text}
-use Rattle.m11_base_disassembly.specs.Texts.{argument_text, between, index_text, register_text}
+use Rattle.m11_base_disassembly.specs.Texts.{between, index_text, register_text}
+use Rattle.m11_asm_dump_laws.specs.Unnamed.{argument_text}
 use Rattle.m11_scan.proofs.NextPieces.{skipped_first}
 use Rattle.m11_scan.specs.Pieces.{first_piece, token}
 use Rattle.m11_scan.specs.Skipped.{has_skipped}
@@ -50,13 +51,13 @@ between_length first last register =
     length-append (first ++ register_text register) last ∙ ap (λ n. n + length last) (length-append first (register_text register))
 
 pub index_left : (number : ℕ) (rest : Bytes) (register : Register)
-    → index_text number register ++ rest ≡ number_text number ++ 0o50 ∷ (register_text register ++ 0o51 ∷ rest)
+    → index_text (number_text number) register ++ rest ≡ number_text number ++ 0o50 ∷ (register_text register ++ 0o51 ∷ rest)
 index_left number rest register =
     append_assoc (number_text number) (between (codes "(") register (codes ")")) rest
     ∙ ap (λ text. number_text number ++ text) (between_left (codes "(") (codes ")") rest register)
 
 pub index_length : (number : ℕ) (register : Register)
-    → length (index_text number register) ≡ length (number_text number) + (2 + length (register_text register))
+    → length (index_text (number_text number) register) ≡ length (number_text number) + (2 + length (register_text register))
 index_length number register =
     let e = length-append (number_text number) (between (codes "(") register (codes ")")) in
     let f = between_length (codes "(") (codes ")") register in omega (arith, e, f)

@@ -10,7 +10,7 @@ use Rattle.m11_base.specs.Rad50.{Name}
 use Rattle.m11_base.specs.declared.instruction_list.Row.{Row}
 use Rattle.m11_base_disassembly.specs.Instructions.{location_after, row_named, size_by, size_of, statement_of, words_after}
 use Rattle.m11_base_disassembly.specs.Meaning.{AreWords}
-use Rattle.m11_base_disassembly.specs.Texts.{statement_text}
+use Rattle.m11_asm_dump_laws.specs.Unnamed.{statement_text}
 use Rattle.m11_obj.specs.declared.pieces.Piece.{Piece}
 use Rattle.m11_unfold_rules.specs.Unfolding.{UnfoldedLine}
 use Rattle.m11_asm_rules.specs.Changes.{moved, with_move}

@@ -5,7 +5,7 @@ use Rattle.m11_base_disassembly.specs.Instructions.{size_of, statement_of}
 use Rattle.m11_base_disassembly.specs.Meaning.{AreWords, IsMeant}
 use Rattle.m11_base_disassembly.specs.Statements.{Statement}
 use Rattle.m11_base_disassembly.specs.Statements as statements
-use Rattle.m11_base_disassembly.specs.Texts.{statement_text}
+use Rattle.m11_asm_dump_laws.specs.Unnamed.{statement_text}
 use Rattle.m11_unfold_rules.specs.Unfolding.{UnfoldedLine}
 use Rattle.m11_asm_rules.specs.Contents.{fixed_word}
 use Rattle.m11_asm_rules.specs.Meanings.{Map}

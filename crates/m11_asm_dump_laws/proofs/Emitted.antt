@@ -26,7 +26,9 @@ use Rattle.m11_base_disassembly.specs.Meaning.{Means, first_words, second_words}
 use Rattle.m11_base_disassembly.specs.Numbers.{number_text}
 use Rattle.m11_base_disassembly.specs.Statements.{Operands}
 use Rattle.m11_base_disassembly.specs.Statements as statements
-use Rattle.m11_base_disassembly.specs.Texts.{argument_text, operands_text, register_text}
+use Rattle.m11_base_disassembly.specs.Texts.{register_text}
+use Rattle.m11_asm_dump_laws.specs.Unnamed.{argument_text}
+use Rattle.m11_asm_dump_laws.proofs.UnnamedOperands.{operands_text}
 use Rattle.m11_scan.specs.Cutting.{tokens_from}
 use Rattle.m11_scan.specs.ErrorFlags.{flag_A, flag_T, flag_if}
 use Rattle.m11_scan_expressions.specs.Expressions.{KnownSymbols, value}

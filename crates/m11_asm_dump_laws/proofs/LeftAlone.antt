@@ -10,7 +10,10 @@ use Rattle.m11_base_disassembly.specs.Instructions.{operands_of, statement_by, s
 use Rattle.m11_base_disassembly.specs.Numbers.{number_text}
 use Rattle.m11_base_disassembly.specs.Statements.{Operands}
 use Rattle.m11_base_disassembly.specs.Statements as statements
-use Rattle.m11_base_disassembly.specs.Texts.{bare_name, operands_text, prefixed, statement_text}
+use Rattle.m11_base_disassembly.specs.Names.{bare_name}
+use Rattle.m11_base_disassembly.specs.Texts.{prefixed}
+use Rattle.m11_asm_dump_laws.specs.Unnamed.{statement_text}
+use Rattle.m11_asm_dump_laws.proofs.UnnamedOperands.{operands_text}
 use Rattle.m11_scan.specs.Cutting.{text_between}
 use Rattle.m11_scan_statements.specs.Statements.{body_of}
 use Rattle.m11_scan_statements.specs.declared.spans.Span.{Span}

@@ -1,3 +1,4 @@
+pub mod UnnamedOperands
 pub mod Tokens
 pub mod Digits
 pub mod Terms

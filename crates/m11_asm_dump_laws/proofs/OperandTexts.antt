@@ -8,7 +8,9 @@ use Rattle.m11_base_disassembly.specs.Arguments as argument
 use Rattle.m11_base_disassembly.specs.Numbers.{number_text}
 use Rattle.m11_base_disassembly.specs.Statements.{Operands}
 use Rattle.m11_base_disassembly.specs.Statements as statements
-use Rattle.m11_base_disassembly.specs.Texts.{argument_text, operands_text, register_text}
+use Rattle.m11_base_disassembly.specs.Texts.{register_text}
+use Rattle.m11_asm_dump_laws.specs.Unnamed.{argument_text}
+use Rattle.m11_asm_dump_laws.proofs.UnnamedOperands.{operands_text}
 use Rattle.m11_scan.specs.Cutting.{tokens_from}
 use Rattle.m11_scan.specs.Skipped.{has_skipped}
 use Rattle.m11_scan.specs.declared.sort.Sort.{Sort}

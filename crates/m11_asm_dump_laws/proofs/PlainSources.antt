@@ -7,7 +7,7 @@ use Rattle.m11_base.specs.Devices.{Bytes}
 use Rattle.m11_base.specs.Instructions.{instruction_of}
 use Rattle.m11_base.specs.declared.instruction_list.Row.{Row}
 use Rattle.m11_base_disassembly.specs.Instructions.{operands_of, statement_by, statement_of, whole_row}
-use Rattle.m11_base_disassembly.specs.Texts.{statement_text}
+use Rattle.m11_asm_dump_laws.specs.Unnamed.{statement_text}
 use Rattle.m11_scan.specs.Line.{SourceLine, line_limit, line_of}
 use Rattle.m11_scan_expressions.specs.Expressions.{KnownSymbols}
 use Rattle.m11_scan_expressions.specs.Remarks.{no_remarks}

@@ -6,7 +6,7 @@ use Rattle.m11_base.specs.Devices.{Bytes}
 use Rattle.m11_base.specs.NameCharacters.{six_of}
 use Rattle.m11_base_disassembly.specs.Numbers.{number_text}
 use Rattle.m11_base_disassembly.specs.Statements as statements
-use Rattle.m11_base_disassembly.specs.Texts.{statement_text}
+use Rattle.m11_asm_dump_laws.specs.Unnamed.{statement_text}
 use Rattle.m11_scan.specs.Cutting.{tokens_from}
 use Rattle.m11_scan.specs.Ends.{expression_end}
 use Rattle.m11_scan.specs.ErrorFlags.{flag_T, flag_if}

@@ -10,7 +10,12 @@ use Rattle.m11_base.specs.declared.instruction.Op.{Op}
 use Rattle.m11_base_disassembly.specs.Meaning.{Means}
 use Rattle.m11_base_disassembly.specs.Statements.{Operands}
 use Rattle.m11_base_disassembly.specs.Statements as statements
-use Rattle.m11_base_disassembly.specs.Texts.{bare_name, name_text, operands_text, statement_text}
+use Rattle.m11_base_disassembly.specs.Names.{bare_name}
+use Rattle.m11_base_disassembly.specs.Texts.{name_text}
+use Rattle.m11_asm_dump_laws.specs.Unnamed.{statement_text}
+use Rattle.m11_asm_dump_laws.proofs.UnnamedOperands.{operands_text, operands_unnamed}
+use Rattle.m11_base_disassembly.specs.References.{no_references}
+use Rattle.m11_base_disassembly.specs.Texts as named
 use Rattle.m11_scan.specs.Cutting.{tokens_from}
 use Rattle.m11_scan.specs.ErrorFlags.{flag_if}
 use Rattle.m11_scan_expressions.specs.Expressions.{KnownSymbols}
@@ -155,7 +160,10 @@ pub with_operands : (name : Bytes) (operands : Operands) → HasOperands operand
     → statement_text (statements.Named name operands) ≡ bare_name name ++ spaced (spaces name) (operands_text operands)
 with_operands name statements.Nothing there = absurd there
 with_operands name (statements.One a) there = with_spaces name (operands_text (statements.One a))
-with_operands name (statements.Two a b) there = with_spaces name (operands_text (statements.Two a b))
+with_operands name (statements.Two a b) there =
+    let operands = statements.Two a b in
+    with_spaces name (named.operands_text [] no_references operands)
+    ∙ ap (λ (text : Bytes). bare_name name ++ spaced (spaces name) text) (operands_unnamed operands)
 with_operands name (statements.Target address) there = with_spaces name (operands_text (statements.Target address))
 with_operands name (statements.Loop register address) there = with_spaces name (operands_text (statements.Loop register address))
 with_operands name (statements.Number number) there = with_spaces name (operands_text (statements.Number number))

@@ -6,7 +6,8 @@ use Rattle.m11_base.specs.declared.operand.Register.{Register}
 use Rattle.m11_base_disassembly.specs.Arguments.{Argument}
 use Rattle.m11_base_disassembly.specs.Arguments as argument
 use Rattle.m11_base_disassembly.specs.Numbers.{number_text}
-use Rattle.m11_base_disassembly.specs.Texts.{argument_text, register_text}
+use Rattle.m11_base_disassembly.specs.Texts.{register_text}
+use Rattle.m11_asm_dump_laws.specs.Unnamed.{argument_text}
 use Rattle.m11_scan.specs.Cutting.{Lexeme, tokens_from}
 use Rattle.m11_scan.specs.Ends.{expression_end}
 use Rattle.m11_scan.specs.ErrorFlags.{flag_A}

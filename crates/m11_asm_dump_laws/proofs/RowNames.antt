@@ -18,7 +18,7 @@ use Rattle.m11_base_disassembly.specs.Instructions.{named_row, operands_of, row_
 use Rattle.m11_base_disassembly.specs.Meaning.{AreWords}
 use Rattle.m11_base_disassembly.specs.Statements.{Operands, Statement}
 use Rattle.m11_base_disassembly.specs.Statements as statements
-use Rattle.m11_base_disassembly.specs.Texts.{bare_name}
+use Rattle.m11_base_disassembly.specs.Names.{bare_name}
 use Rattle.m11_asm_dump_laws.specs.Operands.{IsWithinWord}
 use Rattle.m11_asm_dump_laws.proofs.Tokens.{is_name_text}
 

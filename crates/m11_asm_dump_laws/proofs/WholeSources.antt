@@ -7,7 +7,8 @@ use Rattle.m11_base.specs.Names.{absolute_name}
 use Rattle.m11_base.specs.declared.instruction_list.Row.{Row}
 use Rattle.m11_base_disassembly.specs.Instructions.{location_after, size_by, size_of, statement_of, whole_row}
 use Rattle.m11_base_disassembly.specs.Meaning.{AreWords}
-use Rattle.m11_base_disassembly.specs.Texts.{prefixed, statement_text}
+use Rattle.m11_base_disassembly.specs.Texts.{prefixed}
+use Rattle.m11_asm_dump_laws.specs.Unnamed.{statement_text}
 use Rattle.m11_unfold_rules.specs.Unfolding.{UnfoldedLine, Unfolds}
 use Rattle.m11_asm_rules.specs.Changes.{with_move}
 use Rattle.m11_asm_rules.specs.Contents.{fixed_word, pieces_from}

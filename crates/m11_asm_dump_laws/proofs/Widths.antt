@@ -1,5 +1,5 @@
 -- The lines of a disassembly fit into lines of a source.
-use Rattle.std.proofs.Common.{◌≡◌, ◌∙◌, ℕ, suc, ◌≤◌, Bool, true, false, [], ◌∷◌, ◌++◌, length, refl, ap, arith, codes}
+use Rattle.std.proofs.Common.{◌≡◌, ◌∙◌, ℕ, suc, ◌≤◌, Bool, true, false, [], ◌∷◌, ◌++◌, length, refl, sym, subst, ap, arith, codes}
 use Rattle.std.specs.Prelude.{◌==◌, ◌&&◌, nat_lt, if◌then◌else◌}
 use Rattle.std.proofs.lemmas.Bool.{le-ltb}
 use Rattle.std.proofs.lemmas.List.{length-append, take_all}
@@ -12,7 +12,10 @@ use Rattle.m11_base_disassembly.specs.Arguments as argument
 use Rattle.m11_base_disassembly.specs.Numbers.{number_text, significant}
 use Rattle.m11_base_disassembly.specs.Statements.{Operands, Statement}
 use Rattle.m11_base_disassembly.specs.Statements as statements
-use Rattle.m11_base_disassembly.specs.Texts.{argument_text, bare_name, name_text, operands_text, register_text, statement_text}
+use Rattle.m11_base_disassembly.specs.Names.{bare_name}
+use Rattle.m11_base_disassembly.specs.Texts.{name_text, register_text}
+use Rattle.m11_asm_dump_laws.specs.Unnamed.{argument_text, statement_text}
+use Rattle.m11_asm_dump_laws.proofs.UnnamedOperands.{operands_text, operands_unnamed}
 use Rattle.m11_scan.specs.Line.{SourceLine, line_limit}
 use Rattle.m11_unfold_rules.specs.Unfolding.{UnfoldedLine}
 use Rattle.m11_asm_dump_laws.specs.Lines.{IsLine}
@@ -93,7 +96,9 @@ pub line_width : (name : Bytes) (operands : Operands) → length name ≤ 6
     → length (statement_text (statements.Named name operands)) ≤ line_limit
 line_width name statements.Nothing short = bare_width name short
 line_width name (statements.One a) short = named_width name _ short (operands_width (statements.One a))
-line_width name (statements.Two a b) short = named_width name _ short (operands_width (statements.Two a b))
+line_width name (statements.Two a b) short =
+    let P : Bytes → Type 0 = λ text. length text ≤ 23 in
+    named_width name _ short (subst P (sym (operands_unnamed (statements.Two a b))) (operands_width (statements.Two a b)))
 line_width name (statements.Target address) short = named_width name _ short (operands_width (statements.Target address))
 line_width name (statements.Loop register address) short =
     named_width name _ short (operands_width (statements.Loop register address))

@@ -5,7 +5,8 @@ use Rattle.std.specs.List.{AllByRecursion, flat_map}
 use Rattle.m11_base.specs.Devices.{Bytes}
 use Rattle.m11_base.specs.Names.{absolute_name}
 use Rattle.m11_base_disassembly.specs.Instructions.{location_after, size_of, statement_of}
-use Rattle.m11_base_disassembly.specs.Texts.{prefixed, statement_text}
+use Rattle.m11_base_disassembly.specs.Texts.{prefixed}
+use Rattle.m11_asm_dump_laws.specs.Unnamed.{statement_text}
 use Rattle.m11_unfold_rules.specs.Unfolding.{UnfoldedLine}
 use Rattle.m11_asm_rules.specs.Contents.{fixed_word, pieces_from}
 use Rattle.m11_asm_rules.specs.Meanings.{Map}

@@ -1,3 +1,4 @@
+pub mod Unnamed
 pub mod Operands
 pub mod Knowledge
 pub mod Lines

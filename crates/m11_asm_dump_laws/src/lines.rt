@@ -4,7 +4,7 @@ ghost use Rattle.std.specs.Prelude.{◌≡◌, ℕ, ◌%◌, ◌<◌, List, [], 
 ghost use Rattle.m11_base_disassembly.specs.Instructions.{size_of, statement_of};
 ghost use Rattle.m11_base_disassembly.specs.Meaning.{AreWords};
 ghost use Rattle.m11_base_disassembly.specs.Statements.{DataByte};
-ghost use Rattle.m11_base_disassembly.specs.Texts.{statement_text};
+ghost use Rattle.m11_asm_dump_laws.specs.Unnamed.{statement_text};
 ghost use Rattle.m11_unfold_rules.specs.Unfolding.{UnfoldedLine};
 ghost use Rattle.m11_asm_rules.specs.Contents.{fixed_byte, fixed_word};
 ghost use Rattle.m11_asm_rules.specs.Lines.{after_line};

@@ -3,7 +3,7 @@
 ghost use Rattle.std.specs.Prelude.{◌≡◌, ℕ, ◌+◌, ◌++◌, true, drop, length};
 ghost use Rattle.m11_base.specs.Devices.{Bytes};
 ghost use Rattle.m11_base_disassembly.specs.Arguments.{Argument, operand_meant};
-ghost use Rattle.m11_base_disassembly.specs.Texts.{argument_text};
+ghost use Rattle.m11_asm_dump_laws.specs.Unnamed.{argument_text};
 ghost use Rattle.m11_scan_expressions.specs.Expressions.{KnownSymbols};
 ghost use Rattle.m11_asm_rules.specs.Codes.{LineContext, operand_of};
 ghost use Rattle.m11_asm_rules.specs.Operands.{form_of, operand_at, read};
