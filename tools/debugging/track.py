@@ -50,7 +50,8 @@ class Track:
 
     def __init__(self, runs, first):
         self.runs, self.first, self.lines, self.printed = runs, first, [], None
-        self.live = Live(runs, first)
+        # `read` is a line that isn't added yet.
+        self.live, self.read = Live(runs, first), None
         self.changes, self.places = {}, {}
 
     @property
@@ -67,16 +68,17 @@ class Track:
         return self.lines[number - self.first]
 
     def read_to(self, number):
-        """Reads the lines up to this step, or to the end of the run."""
-        for following in range(self.last + 1, number + 1):
+        """Reads the lines up to this step, or to the end of the run. A line is added only when what follows it was read, since a step that waits for a
+        byte of the console has a line and isn't made."""
+        while self.last < number and self.stop is None:
             found = self.live.line()
-            if not found:
-                break
-            self.add(Line(following, *found))
-        stop = self.live.stop
-        if stop and stop.word == "INPUT FAULT" and self.lines and self.last == stop.steps:
-            # This step was begun, and waits for its byte: it isn't made.
-            self.drop_last()
+            if self.read and not self.is_waiting():
+                self.add(self.read)
+            self.read = Line(self.last + 1, *found) if found else None
+
+    def is_waiting(self):
+        """Whether the line that was read is of a step that was begun, and waits for its byte."""
+        return self.stop is not None and self.stop.word == "INPUT FAULT" and self.stop.steps == self.read.number
 
     def add(self, line):
         if self.printed is None:
@@ -106,13 +108,6 @@ class Track:
             self.first, self.changes, self.places = self.lines[0].number, {}, {}
             for line in self.lines:
                 self.note(line)
-
-    def drop_last(self):
-        line = self.lines.pop()
-        self.places[line.fields[0]].pop()
-        for change in line.changes:
-            for part in self.changes[parts_of(change)[0]]:
-                part.pop()
 
     def close(self):
         if self.live.stop is None:

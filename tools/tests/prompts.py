@@ -76,6 +76,16 @@ def check_input(found, folder):
            ("HALT AFTER 1400009 STEPS", ["the console printed 200001 bytes by now:", '  "xx"<12>']))
 
 
+def check_waiting(found, folder):
+    """A step that waits for a byte of the console isn't made, by whatever way the session comes to it."""
+    build(folder, "ECHO", ECHO)
+    ways = {"step": ["step", "step"], "over": ["over", "over"], "to": ["to 1", "to 2"], "watch": ["step", "watch PSW"], "back": ["go", "back", "step", "step"]}
+    for name, commands in ways.items():
+        said = answers(debug(folder, [*commands, "where"], "-y", "ECHO.LST", "ECHO.TAP"))
+        expect_in(found, f"the stop by {name}", "\n".join(said[-2]), "INPUT FAULT AFTER 2 STEPS", "next  001004 READ")
+        expect(found, f"the place by {name}", said[-1][0], "AFTER 1 STEPS")
+
+
 BAD = ("foo", "s x", "step -1", "break", "break NOWHERE", "b 1001", "b 177560", "b 1000 0", "b 1000 x", "b 1000 2 if r0=1", "b 1000 if r0", "b 1000 if =",
        "delete", "d 7", "go 5",
        "over 5", "out", "back x", "back 5 6", "back LIST maybe", "to", "to x", "to 99999999999", "to 2000000000", "watch", "watch 1001", "watch PC", "e 1:",
@@ -284,4 +294,4 @@ def check_times(found, folder):
 
 
 CHECKS = [(f"debug-{check.__name__.replace('check_', '')}", in_a_folder(check), ()) for check in (
-    check_input, check_commands, check_files, check_interrupts, check_completion, check_times)]
+    check_input, check_waiting, check_commands, check_files, check_interrupts, check_completion, check_times)]
