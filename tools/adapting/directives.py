@@ -242,9 +242,9 @@ def section(reader, line, statement):
 def set_section(reader, text):
     body = reader.in_macro()
     if body:
-        body.section = (text, list(reader.branches))
+        body.section = (text, reader.here())
     else:
-        reader.section = (text, list(reader.branches))
+        reader.section = (text, reader.here())
 
 
 def save(reader, line, statement):
@@ -262,8 +262,8 @@ def restore(reader, line, statement):
         # A macro .RESTORE, which is defined before each call of this body, names the section of the caller.
         reader.declare_restore(line)
         return reader.emit(line)
-    text, path = body.section
-    if text is None or not reader.holds(path):
+    text, place = body.section
+    if text is None or not reader.holds(place):
         return reader.report(line, "which section is restored depends on a condition or a macro; name it")
     set_section(reader, text)
     reader.write(line, change(line.text, [(statement.a, statement.b, text[1:])]))

@@ -10,27 +10,49 @@ class Formal:
         self.name, self.created, self.default = name, created, default
 
 
+class Effects:
+    """What bodies do: the operators that stand in them, and whether one selects another section outside of .SAVE and .RESTORE."""
+
+    def __init__(self):
+        self.operators, self.switches = set(), False
+
+    def add(self, operator, switches):
+        """Adds what a statement does, and says whether that is new."""
+        is_new = operator not in self.operators or switches and not self.switches
+        self.operators.add(operator)
+        self.switches = self.switches or switches
+        return is_new
+
+
 class Macro:
-    """A macro by its formals and the statements of its body."""
+    """A macro by its formals and the statements of its body. `enclosed` are the names that its body has in texts `^/text/`, `others` the effects of all
+    macros of its name, and `saved` is how many sections are saved."""
 
-    def __init__(self, name, formals, sure):
-        self.name, self.formals, self.sure, self.body, self.called = name, formals, sure, [], set()
+    def __init__(self, name, formals, sure, others):
+        self.name, self.formals, self.sure, self.body, self.enclosed = name, formals, sure, [], set()
+        self.effects, self.others, self.saved = Effects(), others, 0
 
-    def add(self, statement):
-        """Adds a statement to the body."""
-        self.body.append(statement)
-        if statement.kind == "operator":
-            self.called.add(statement.op)
+    def does(self, operator):
+        """Adds an operator of the body to the effects, and says whether that is new."""
+        switches = operator in SECTIONS and self.saved <= 0
+        self.others.add(operator, switches)
+        return self.effects.add(operator, switches)
 
-    def operators(self):
-        return self.called
 
-    def shape(self):
-        return [(formal.name, formal.default) for formal in self.formals]
-
-    def enclosed(self):
-        """The names that its body has in a text `^/text/`, which gets brackets."""
-        return {name for statement in self.body for _, inside in DELIMITED.findall(statement.text) for name in names_in(inside)}
+def add_to_bodies(macros, statement):
+    """Adds a statement to the bodies of macros, the innermost one last, and says whether one of them does something by it that it didn't before."""
+    op = statement.op
+    saved = (op == ".SAVE") - (op == ".RESTO")
+    # The names in a text `^/text/`, which gets brackets.
+    names = [name for _, inside in DELIMITED.findall(statement.text) for name in names_in(inside)] if "^" in statement.text else []
+    for macro in macros:
+        macro.body.append(statement)
+        macro.saved += saved
+        macro.enclosed.update(names)
+    # The bodies around the innermost one have all operators that it has.
+    if statement.kind != "operator" or op in macros[-1].effects.operators and op not in SECTIONS:
+        return False
+    return any([macro.does(op) for macro in macros])
 
 
 def formals_of(text, at):
@@ -140,7 +162,7 @@ class Call:
     def _enclosed(self, slots, names):
         """An actual with a lone bracket, where the body puts brackets around it."""
         for place, word in slots.items():
-            if place < len(names) and not are_paired(word) and names[place] in self.macro.enclosed():
+            if place < len(names) and not are_paired(word) and names[place] in self.macro.enclosed:
                 self.wrong = f"the actual {word} has a bracket without its other one, and {self.macro.name} has {names[place]} in a text that gets brackets"
 
     def _defaults(self, slots, outer, filled):
@@ -156,7 +178,7 @@ class Call:
                 self.changed = self.counted = True
 
     def _line(self, slots):
-        if self.counted and ".NARG" in self.macro.operators():
+        if self.counted and ".NARG" in self.macro.effects.operators:
             self.wrong = f"{self.macro.name} asks by .NARG how many actuals it has, and they change"
             return self.text
         words = [slots.get(place, "") for place in range(max(slots, default=-1) + 1)]
@@ -178,16 +200,16 @@ def may_be_empty(word, outer, filled):
     return bool(names) and names <= outer - filled and not NAME.sub("", word).strip("<>' \t")
 
 
-def reaches(macro, macros, wanted):
-    """Whether the body of a macro, or one that it calls, satisfies `wanted`."""
-    todo, seen = [macro], set()
+def reaches(effects, named, wanted):
+    """Whether bodies with these effects, or those that they call, satisfy `wanted`. `named` has the effects of all macros of each name."""
+    todo, seen = [effects], set()
     while todo:
         one = todo.pop()
-        if id(one) not in seen:
-            seen.add(id(one))
-            if wanted(one):
-                return True
-            todo += [inner for op in one.operators() for inner in macros.get(op, [])]
+        if wanted(one):
+            return True
+        new = {op for op in one.operators if op in named} - seen
+        seen |= new
+        todo += [named[op] for op in new]
     return False
 
 
@@ -196,7 +218,7 @@ def all_that_reach(macros, wanted):
     callers, found = {}, set()
     for name, ones in macros.items():
         for one in ones:
-            for op in one.operators():
+            for op in one.effects.operators:
                 callers.setdefault(op, set()).add(name)
         if any(wanted(one) for one in ones):
             found.add(name)
@@ -208,19 +230,14 @@ def all_that_reach(macros, wanted):
     return found
 
 
-def switches(macro):
+def switches(effects):
     """Whether a body selects another section outside of .SAVE and .RESTORE."""
-    depth = 0
-    for statement in macro.body:
-        depth += (statement.op == ".SAVE") - (statement.op == ".RESTO")
-        if statement.kind == "operator" and statement.op in SECTIONS and depth <= 0:
-            return True
-    return False
+    return effects.switches
 
 
-def restores(macro):
+def restores(effects):
     """Whether a body returns to the section of its caller."""
-    return ".RESTO" in macro.operators()
+    return ".RESTO" in effects.operators
 
 
 def has_boundary(macro):

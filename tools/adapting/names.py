@@ -74,6 +74,8 @@ LDCFD""".split())
 
 # How deep bodies, files of .INCLUDE, and macros of libraries that need one another are nested at most. Each level costs time at each line.
 DEEPEST = 64
+# How many definitions of a macro a call is tried with at most. Several come into question if they stand in conditions or bodies.
+MANY = 64
 
 
 def six(name):

@@ -3,9 +3,13 @@ import os
 
 from . import directives
 from .capitals import in_capitals
-from .macros import Call, Formal, Libraries, Macro, formals_of, reaches, restores, switches, used_across_sections
-from .names import CLOSERS, DEEPEST, DIRECTIVES, INSTRUCTIONS, ONE_WORD_CODES, OPENERS, OTHER_MODELS, six
+from .macros import Call, Effects, Formal, Libraries, Macro, add_to_bodies, formals_of, reaches, restores, switches, used_across_sections
+from .names import CLOSERS, DEEPEST, DIRECTIVES, INSTRUCTIONS, MANY, ONE_WORD_CODES, OPENERS, OTHER_MODELS, six
 from .scan import NAME, SPACED_LABEL, TOO_LONG, WIDTH, Line, Statement, change, fitted, names_in, with_brackets
+
+
+# Where no branch of a condition is open.
+START = 0, 0
 
 
 class Body:
@@ -14,7 +18,7 @@ class Body:
 
     def __init__(self, macro, formals, filled, depth):
         self.macro, self.formals, self.filled, self.depth = macro, formals, filled, depth
-        # The section of the body: None is that of its caller, and (None, []) is unknown.
+        # The section of the body: None is that of its caller, and (None, START) is unknown.
         self.section, self.saved = None, []
 
 
@@ -38,14 +42,14 @@ class Reader:
 
     def __init__(self, texts, libraries, folders, reports, known=None):
         self.texts, self.libraries, self.folders, self.reports, self.known = texts, libraries, folders, reports, known or {}
-        self.out, self.front, self.front_branches = [], 0, []
+        self.out, self.front, self.front_branches = [], 0, 0
         self.macros, self.bodies, self.branches = {}, [], []
-        # How many bodies are open that are nested too deep, and what was found of macros since a body changed.
-        self.deeper, self.reached = 0, {}
+        # The effects of all macros of each name, how many bodies are open that are nested too deep, and what was found of macros since effects changed.
+        self.effects, self.deeper, self.reached = {}, 0, {}
         self.placing, self.open_files, self.restore_known = set(), [], False
         self.remark, self.ended, self.any_macro_call = None, False, False
         self.deleted, self.missing = set(), set()
-        self.section, self.saved, self.restored_to = ("\t.PSECT", []), [], None
+        self.section, self.saved, self.restored_to = ("\t.PSECT", START), [], None
         self.last_branch, self.source = 0, 0
         # The line that began each mode under which lines are written anew, how many lines each .DSABL LC changed, and .ENABL FPT.
         self.held, self.in_capitals, self.truncates = {"AMA": None, "LC": None}, {}, False
@@ -116,10 +120,8 @@ class Reader:
             text = line.text[:statement.a] + SPACED_LABEL.sub(r"\1\2", line.text[statement.a:], count=1)
             line, statement = line.with_text(text), Statement(text)
         if self.bodies and self.bodies[-1].macro:
-            for body in self.bodies:
-                if body.macro:
-                    body.macro.add(statement)
-            self.reached.clear()
+            if add_to_bodies([body.macro for body in self.bodies if body.macro], statement):
+                self.reached.clear()
         if statement.kind != "operator":
             return directives.assignment(self, line, statement)
         op = statement.op
@@ -190,13 +192,13 @@ class Reader:
             self.deeper += 1
             return self.report(line, f"bodies are nested more than {DEEPEST} deep here; what belongs to this one isn't looked at as such")
         if not self.bodies:
-            self.front, self.front_branches = len(self.out), list(self.branches)
+            self.front, self.front_branches = len(self.out), len(self.branches)
         found = NAME.search(line.text, statement.b)
         macro, formals, text = None, [], line.text
         if statement.op == ".MACRO" and found:
             formals, edits = formals_of(line.text, found.end())
-            macro = Macro(six(found.group()), formals, None)
-            macro.sure = None if self.bodies else list(self.branches)
+            name = six(found.group())
+            macro = Macro(name, formals, None if self.bodies else self.here(), self.effects.setdefault(name, Effects()))
             self.macros.setdefault(macro.name, []).append(macro)
             self.deleted.discard(macro.name)
             text = change(line.text, edits)
@@ -231,9 +233,16 @@ class Reader:
                 return body
         return None
 
-    def holds(self, path):
+    def here(self):
+        """The open branches of conditions: how many there are, and the last one, whose number no other has."""
+        return (len(self.branches), self.branches[-1]) if self.branches else START
+
+    def holds(self, place):
         """Whether a finding in some branches of conditions holds in the open ones."""
-        return path is not None and path == self.branches[:len(path)]
+        if place is None or place == START:
+            return place == START
+        count, last = place
+        return count <= len(self.branches) and self.branches[count - 1] == last
 
     def depth(self):
         """The number of conditions that were open where the innermost body began."""
@@ -246,21 +255,23 @@ class Reader:
     # Macros
 
     def candidates(self, name):
-        """The macros that a name may call here, the last one first."""
+        """The macros that a name may call here, the last one first; of too many some."""
         found = []
         for macro in reversed(self.macros.get(name, [])):
             found.append(macro)
-            if self.holds(macro.sure):
+            if self.holds(macro.sure) or len(found) > MANY:
                 break
         if not found and self.bodies:
-            return self.known.get(name, [])
+            return self.known.get(name, [])[:MANY + 1]
         return found
 
     def defines(self, name):
         """Whether a macro of that name is defined here for certain."""
-        return any(self.holds(macro.sure) for macro in self.macros.get(name, []))
+        return any(self.holds(macro.sure) for macro in reversed(self.macros.get(name, [])))
 
     def call(self, line, statement, candidates):
+        if len(candidates) > MANY:
+            return self.report(line, f"{statement.op} has more than {MANY} definitions here, and isn't looked at; say which one by leaving the others out")
         texts, wrong = set(), None
         for macro in candidates:
             call = Call(line.text, statement.b, macro)
@@ -283,13 +294,13 @@ class Reader:
             elif not body:
                 self.tell_section(line)
         if self.reaches(macro, switches):
-            (body or self).section = (None, [])
+            (body or self).section = (None, START)
 
     def reaches(self, macro, wanted):
         """Whether the body of a macro, or one that it calls, satisfies `wanted`."""
         key = id(macro), wanted
         if key not in self.reached:
-            self.reached[key] = reaches(macro, self.macros, wanted)
+            self.reached[key] = reaches(macro.effects, self.effects, wanted)
         return self.reached[key]
 
     def defines_restore(self):
@@ -297,13 +308,13 @@ class Reader:
         return bool(self.macros.get(".RESTO"))
 
     def tell_section(self, line):
-        text, path = self.section
-        if text is None or not self.holds(path):
+        text, place = self.section
+        if text is None or not self.holds(place):
             self.reports.report(line, "a section is restored here, and which one depends on a condition or a macro")
         elif self.restored_to is None or self.restored_to[0] != text or not self.holds(self.restored_to[1]):
             for part in ("\t.MACRO\t.RESTORE", text, "\t.ENDM\t.RESTORE"):
                 self.emit(Line(part, line.end or "\n", line.file, line.number))
-            self.restored_to = (text, list(self.branches))
+            self.restored_to = (text, self.here())
 
     def place(self, name, line):
         """Puts the definition of a library's macro here, or in front of the outermost body that is open."""
@@ -313,7 +324,7 @@ class Reader:
             return self.reports.report(line, f"the macro {name} isn't put here, since more than {DEEPEST} macros of libraries need one another")
         kept = self.out, self.bodies, self.branches, self.front, self.front_branches, self.deeper
         if self.bodies:
-            self.branches = list(self.front_branches)
+            self.branches = self.branches[:self.front_branches]
         self.out, self.bodies, self.deeper = [], [], 0
         self.placing.add(name)
         self.run([Line(one.text, one.end or "\n", one.file, one.number) for one in self.libraries.bodies[name]])

@@ -134,5 +134,22 @@ def check_deep():
         return wrong + differ("files", (status, out.count(b";.INCLUDE"), said), (1, 64, told))
 
 
+def check_many():
+    """Calls of a macro with as many definitions as are tried, and with one more; hundreds of both, in conditions and in bodies that stay open."""
+    with tempfile.TemporaryDirectory() as folder:
+        wrong, one = [], "\t.IF DF\tX\n\t.MACRO\tM\tA=1\n\t.ENDM\n\t.ENDC\n"
+        told = b"S.MAC:261: M has more than 64 definitions here, and isn't looked at; say which one by leaving the others out\n"
+        for count, wanted in ((64, (0, b"\tM\t1\n", b"")), (65, (1, b"\tM\n", told))):
+            put(folder, f"{one * count}\tM\n".encode())
+            status, out, said = adapt(folder, "S.MAC")
+            wrong += differ(f"{count} definitions", (status, out[out.rindex(b"\tM"):], said), wanted)
+        for text, lines in ((one + "\tM\n", 600 - 64), ("\t.MACRO\tM\tA=1\n\t.PSECT\n\tM\n", 600 - 64)):
+            put(folder, (text * 600).encode())
+            before = os.times().children_user
+            status, _, said = adapt(folder, "S.MAC")
+            wrong += differ("hundreds", (status, said.count(b"\n"), os.times().children_user - before < 3), (1, lines, True))
+        return wrong
+
+
 CHECKS = [("texts-" + check.__name__[6:].replace("_", "-"), check, ()) for check in (
-    check_pipes, check_encodings_and_ends, check_carriage_returns_in_lines, check_deep)]
+    check_pipes, check_encodings_and_ends, check_carriage_returns_in_lines, check_deep, check_many)]
