@@ -79,6 +79,8 @@ LINE_RULES = (
     rule("caret-in-an-actual", QUIET, (".MACRO QC A|.WORD A+1|.ENDM|QC ^D2 ; x", ";|;|;|.WORD 3", "|||", "|||")),
     rule("defined-and-zero", LANGUAGE + "#conditions", ("QZ=0|.IF DF NONE&QZ|.WORD 1|.ENDC", "QZ=0|;|;|;", "|||", "|||")),
 )
+# Lines that a source only has where those of a rule stand in it more than once: then another label is at the same place too.
+AGAIN_RULES = [LineRule("twice-at-one-place", LANGUAGE + "#flags", ("LG:",), (";",), ("M",), ("",))]
 # Rules of lines in any spelling: their patterns, what macro11 says of such a line, and what stands in the place of the part.
 PATTERN_RULES = (
     ("jump-through-r0", LANGUAGE + "#operands", re.compile(r"(?i)\bJMP(?=[ \t]+[^;]*(R0|RX|%0))"), "JMP Rn is illegal", "CLR"),
@@ -95,7 +97,7 @@ ALL_LINE_RULES = [each for group in LINE_RULES for each in group]
 def blocks_in(lines):
     """The rules of lines whose lines are in a source, as pairs of a place and a rule."""
     found = []
-    for each in ALL_LINE_RULES:
+    for each in ALL_LINE_RULES + AGAIN_RULES:
         size = len(each.lines)
         found += [(at, each) for at in range(len(lines) - size + 1) if tuple(lines[at:at + size]) == each.lines]
     return found
