@@ -12,13 +12,17 @@ OUR_STOP = re.compile(r"^(HALT|LIMIT|WAIT|STACK FAULT|NO START) AFTER (\d+) STEP
 OUR_REGISTERS = re.compile(r"^R0 (\d{6}) R1 (\d{6}) R2 (\d{6}) R3 (\d{6}) R4 (\d{6}) R5 (\d{6}) SP (\d{6}) PC (\d{6}) PSW (\d{6})", re.M)
 # What SIMH has that m11's machine lacks, and that can be taken away.
 ABSENT = "RHA PTR PTP CR LPT RK RL HK RX RQ TM TQ".split()
-PROLOGUE = ["set cpu 11/40", "set cpu 16k", *(f"set {name.lower()} dis" for name in ABSENT), "set tto 8b", "break 177771"]
+# A breakpoint where no program counter comes: without any, SIMH never looks for one.
+ELSEWHERE = "17777771"
+PROLOGUE = ["set cpu 11/40", "set cpu 16k", *(f"set {name.lower()} dis" for name in ABSENT), "set tto 8b", f"break {ELSEWHERE}"]
+# What programs leave there, and `reset all` doesn't clear: the registers of memory management, and the stack pointers of other modes.
+LEFT = ("kipar0-udpdr7", "ssp", "usp")
 MARK = "@@"
 
 
 @dataclass
 class State:
-    """How a run stopped, the steps, the nine registers, memory, and the console's output."""
+    """How a run stopped, the steps, the nine registers, memory, and the console's output. `then` is how SIMH stopped at the one more that is begun."""
     stop: str
     steps: int
     registers: tuple
@@ -26,6 +30,7 @@ class State:
     console: bytes = b""
     fetched: int = 0
     is_there: bool = True
+    then: str = ""
 
 
 def is_fetched(line):
@@ -50,7 +55,7 @@ def orders(path, mine, number, top):
     where that leads, before the instruction there; but not after a HALT, which takes no trap."""
     steps, place = mine.fetched, mine.registers[7]
     go_on = [] if mine.stop == "HALT" else [f"break {place:o}", "step 1", f"nobreak {place:o}"]
-    clear = [f"dep {name.lower()} 0" for name in ("R0", "R1", "R2", "R3", "R4", "R5", "SP", "PSW")]
+    clear = [f"dep {name} 0" for name in ("r0-r5", "sp", "psw", *LEFT)]
     # A breakpoint that stopped SIMH doesn't stop it again until it has looked for one at another place: it does so at the NOP.
     return ["reset all", "load ZERO.TAP", "dep 0 240", "dep pc 0", "step 1", "dep 0 0", f"load {path}", *clear, f"echo {MARK}{number}",
             f"step {steps}" if steps else "echo", f"echo {MARK}stopped",
@@ -82,6 +87,7 @@ def state_of(part, mine):
     after, _, shown = rest.partition(MARK + "state")
     cells = re.findall(r":\t(\d+)", shown)
     registers = [int(cell, 8) for cell in cells[:9]]
-    stop = re.search(r"^(.*), PC: ", before, re.M)
+    stop, then = (re.search(r"^(.*), PC: ", said, re.M) for said in (before, after))
     is_there = "Breakpoint" in after or mine.stop == "WAIT" and "Step expired" in after or mine.stop == "HALT" and "HALT instruction" in before
-    return State(stop[1].strip() if stop else "", 0, tuple(registers), tuple(int(cell, 8) for cell in cells[9:]), is_there=is_there)
+    stop, then = (found[1].strip() if found else "" for found in (stop, then))
+    return State(stop, 0, tuple(registers), tuple(int(cell, 8) for cell in cells[9:]), is_there=is_there, then=then)

@@ -6,7 +6,7 @@ from dataclasses import replace
 
 PROCESSOR, COMING = "docs/PROCESSOR.md", "docs/COMING.md"
 SP, PC, PSW = 6, 7, 8
-TRACE, HIGH_BITS, CODES = 0o20, 0o170000, 0o17
+TRACE, HIGH_BITS, MODES, CODES = 0o20, 0o170000, 0o140000, 0o17
 STACK_LIMIT = 0o400
 WAIT, RTI, RTT = 1, 2, 6
 VECTORS = (0o4, 0o10, 0o14, 0o20, 0o30, 0o34)
@@ -196,23 +196,34 @@ def stack_fault(before, mine, other, code):
 
 def trace_of_a_return(before, mine, code):
     """There a trace trap follows RTI and RTT if T was set before them; here if it is set at the end, and not after RTT."""
-    return trapped(mine, 0o14) if code in (RTI, RTT) and before.registers[PSW] & TRACE else None
+    return (mine, 0o14) if code in (RTI, RTT) and before.registers[PSW] & TRACE else None
 
 
 def trace_of_a_wait(before, mine, code):
     """There a trace trap follows WAIT if T is set; here the machine stops."""
-    return trapped(mine, 0o14) if code == WAIT and mine.registers[PSW] & TRACE else None
+    return (mine, 0o14) if code == WAIT and mine.registers[PSW] & TRACE else None
 
 
 def stack_limit(before, mine, code):
     """There a push below 400 leads to a trap through 4 after the instruction."""
-    return trapped(mine, 4) if mine.registers[SP] < STACK_LIMIT else None
+    return (mine, 4) if mine.registers[SP] < STACK_LIMIT else None
 
 
 def jump_to_a_register(before, mine, code):
     """JMP and JSR to a register trap through 4 there, and through 10 here."""
     is_jump = code >> 3 == 0o10 or code >> 9 == 4 and not code & 0o70
-    return trapped(replace(after_the_word(before), fetched=mine.fetched), 4) if is_jump and has_trapped(before, mine, 0o10) else None
+    return (replace(after_the_word(before), fetched=mine.fetched), 4) if is_jump and has_trapped(before, mine, 0o10) else None
+
+
+def stack_of_another_mode(before, mine, other, code):
+    """A trap that is taken only there, as COMPUTED has them, through a vector whose status has another mode: it can't push on the stack of that mode,
+    which begins at 0, and the machine stops there."""
+    for rule, _ in COMPUTED.values():
+        state, vector = rule(before, mine, code) or (mine, None)
+        is_like = (state.registers, state.memory) == (other.registers, other.memory)
+        if vector and state.memory[vector // 2 + 1] & MODES and is_like and other.then == "Trap stack push abort":
+            return True
+    return False
 
 
 # What is looked at, and what SIMH's state is computed for.
@@ -222,7 +233,9 @@ SEEN = {"register-first": (register_first, PROCESSOR + "#operands"), "codes-of-a
         "stack-pointer-of-a-call": (stack_pointer_of_a_call, PROCESSOR + "#stack-jumps-and-traps"),
         "codes-before-the-address": (codes_before_the_address, PROCESSOR + "#results"),
         "vector-under-the-stack": (vector_under_the_stack, PROCESSOR + "#stack-jumps-and-traps"),
-        "same-place": (same_place, PROCESSOR + "#stack-jumps-and-traps"), "stack-fault": (stack_fault, PROCESSOR + "#stack-jumps-and-traps")}
+        "same-place": (same_place, PROCESSOR + "#stack-jumps-and-traps"), "stack-fault": (stack_fault, PROCESSOR + "#stack-jumps-and-traps"),
+        "stack-of-another-mode": (stack_of_another_mode, PROCESSOR + "#memory-and-registers")}
+# Each finds a state, and the vector by which SIMH traps from it.
 COMPUTED = {"trace-of-a-return": (trace_of_a_return, PROCESSOR + "#stack-jumps-and-traps"), "stack-limit": (stack_limit, PROCESSOR),
             "trace-of-a-wait": (trace_of_a_wait, PROCESSOR + "#stack-jumps-and-traps"),
             "jump-to-a-register": (jump_to_a_register, PROCESSOR + "#stack-jumps-and-traps")}

@@ -3,7 +3,7 @@ from against_peers import machines
 from against_peers.programs import program_of
 from against_peers.results import AGREES, Result
 from against_peers.search import first_difference, is_same
-from against_peers.tape_rules import COMPUTED, SEEN, Failed, word_of
+from against_peers.tape_rules import COMPUTED, SEEN, Failed, trapped, word_of
 
 NAME = "tapes"
 STOPS = {"HALT": "HALT instruction", "LIMIT": "Step expired", "WAIT": "Step expired"}
@@ -49,9 +49,10 @@ def explained(programs, tape, last, room):
 
 
 def is_computed(programs, tape, rule, before, mine, code, room):
-    """Whether SIMH has the state that a rule computes."""
+    """Whether SIMH has the state after the trap that a rule finds."""
     try:
-        wanted = rule(before, mine, code)
+        found = rule(before, mine, code)
+        wanted = found and trapped(*found)
     except Failed:
         return False
     return wanted is not None and is_same(wanted, machines.theirs(programs, [(tape, wanted)], room)[0])
