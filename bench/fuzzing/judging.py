@@ -3,7 +3,7 @@ import os
 
 from .cases import OLD
 from .forms import COMPILED
-from .running import MEMORY, PATIENCE
+from .running import BY_THE_CLOCK, MEMORY, PATIENCE
 
 # What a script of Python or a shell says if it ends in another way than by its own words.
 STRANGE = (b"Traceback (most recent call last)", b"Exception ignored", b"Fatal Python error", b"SyntaxWarning", b"DeprecationWarning", b"ResourceWarning",
@@ -23,7 +23,7 @@ def kept(name, folder):
 def of_end(case, run, patience):
     """How a call may not end at all."""
     if run.is_late:
-        return [f"it hadn't ended after {patience} seconds"]
+        return [f"it hadn't ended after {patience} seconds of the processor, or {patience * BY_THE_CLOCK} of the clock"]
     if run.status < 0:
         return [f"signal {-run.status} ended it"]
     wrong = []

@@ -1,12 +1,14 @@
 """Runs the command of a case in a folder of its own, with limits of time and memory."""
+import contextlib
 import os
 import resource
 import shutil
 import signal
 import subprocess
 
-# A call that takes longer hangs; a file of half a megabyte is given more.
-PATIENCE, LONG_PATIENCE = 10, 40
+# A call that takes more seconds of the processor hangs; a file of half a megabyte is given more. By the clock it has some times as many, since a machine
+# may have more to do.
+PATIENCE, LONG_PATIENCE, BY_THE_CLOCK = 10, 40, 6
 # The address space of a process, and the size of a file that it writes.
 MEMORY, SIZE = 1 << 30, 1 << 28
 # How many bytes of a stream are looked at.
@@ -59,6 +61,41 @@ def used():
     return usage.ru_utime + usage.ru_stime
 
 
+def descendants(first):
+    """A process that runs and all that it has begun, each with the seconds of the processor that it and those that it has waited for had."""
+    children, ticks = {}, {}
+    for name in filter(str.isdigit, os.listdir("/proc")):
+        try:
+            with open(f"/proc/{name}/stat", "rb") as file:
+                fields = file.read().rpartition(b")")[2].split()
+        except OSError:
+            # It has ended since.
+            continue
+        children.setdefault(int(fields[1]), []).append(int(name))
+        ticks[int(name)] = sum(map(int, fields[11:15]))
+    todo, found = [first], {}
+    while todo:
+        one = todo.pop()
+        found[one] = ticks.get(one, 0) / os.sysconf("SC_CLK_TCK")
+        todo += children.get(one, [])
+    return found
+
+
+def wait(process, patience):
+    """The status of a process, and whether it hung and was ended."""
+    for _ in range(patience * BY_THE_CLOCK):
+        try:
+            return process.wait(1), False
+        except subprocess.TimeoutExpired:
+            if sum(descendants(process.pid).values()) > patience:
+                break
+    # Each of them may have begun a session of its own. None is another's: the first one hasn't been waited for.
+    for one in descendants(process.pid):
+        with contextlib.suppress(ProcessLookupError):
+            os.kill(one, signal.SIGKILL)
+    return process.wait(), True
+
+
 def beginning(path):
     """The first bytes of a stream, in whole lines if it has more."""
     with open(path, "rb") as file:
@@ -72,17 +109,11 @@ def run(case, folders, patience=PATIENCE):
     with open(given, "wb") as file:
         file.write(case.given)
     environment = {**os.environ, "TMPDIR": folders.temporary, "PYTHONDONTWRITEBYTECODE": "1", **case.environment}
-    before, is_late = used(), False
+    before = used()
     with open(given, "rb") as reads, open("/dev/full" if case.is_full else out, "wb") as prints, open(said, "wb") as says:
         process = subprocess.Popen([os.fsencode(word) for word in case.command()], cwd=folders.here, env=environment, stdin=reads, stdout=prints, stderr=says,
                                    preexec_fn=limit, start_new_session=True)
-        try:
-            status = process.wait(patience)
-        except subprocess.TimeoutExpired:
-            is_late = True
-            # The session of the call is its own, so nothing else is in its group.
-            os.killpg(process.pid, signal.SIGKILL)
-            status = process.wait()
+        status, is_late = wait(process, patience)
     return Run(status, b"" if case.is_full else beginning(out), beginning(said), used() - before, is_late)
 
 

@@ -17,7 +17,7 @@ WRONG = (
     ("sim", "m11", "echo 'Traceback (most recent call last)' >&2; exit 1", "Traceback"),
     ("dump", "m11-dump", "echo oops >&2; exit 4", "isn't of the form for status 4"),
     ("trace", "m11-trace", "echo '?M11 SIM 90 NoMemory' >&2; exit 5", "NoMemory, with 1024 MiB"),
-    ("debug", "m11-trace", "sleep 30", "it hadn't ended after 10 seconds"),
+    ("debug", "m11-trace", "while :; do :; done", "it hadn't ended after 10 seconds"),
     ("asm", "m11", "echo x >OUT0.OBJ; echo 'error: x' >&2; exit 2", "touched an output"),
 )
 STAND_IN = """#!/bin/sh
