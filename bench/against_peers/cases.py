@@ -35,5 +35,5 @@ def result(programs, path, room):
     if tapes.missing(programs):
         return None
     last = machines.ours(programs, program.tape(), program.steps, room)
-    other = machines.theirs(programs, [(program.tape(), last)], room)[0]
+    other = machines.theirs(programs, [(machines.Part(program.tape()), last)], room)[0]
     return tapes.result(programs, program.tape(), last, other, room)

@@ -63,7 +63,7 @@ def check(programs, seed, numbers, room):
     found = [(number, program_of(seed, number)) for number in numbers]
     for number, program in found:
         mine = machines.ours(programs, program.tape(), MANY, room)
-        other = machines.theirs(programs, [(program.tape(), replace(mine, fetched=MANY))], room)[0]
+        other = machines.theirs(programs, [(machines.Part(program.tape()), replace(mine, fetched=MANY))], room)[0]
         yield number, compare(mine, other), tapes.shown(program)
 
 

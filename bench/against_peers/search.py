@@ -12,33 +12,33 @@ def is_same(mine, other):
     return other is not None and other.is_there and mine.registers == other.registers and mine.memory[:len(other.memory)] == other.memory
 
 
-def states(programs, tape, counts, room, top):
+def states(programs, part, counts, room, top):
     """The states of both machines after some numbers of steps."""
-    mine = [machines.ours(programs, tape, count, room, top) for count in counts]
-    other = machines.theirs(programs, [(tape, state) for state in mine], room, top)
+    mine = [machines.ours(programs, part.tape, count, room, top) for count in counts]
+    other = machines.theirs(programs, [(part, state) for state in mine], room, top)
     return list(zip(counts, mine, other))
 
 
-def first_difference(programs, tape, last, room):
+def first_difference(programs, part, last, room):
     """The step and the states of `first_in`, with all memory: for as little memory as shows a difference, if all of it is alike before the step."""
     difference = None
     for top in (SOME_MEMORY, machines.TOP_ADDRESS):
-        found = first_in(programs, tape, last, room, top)
+        found = first_in(programs, part, last, room, top)
         if found is not None:
-            (_, *before), (_, *after) = states(programs, tape, [found - 1, found], room, machines.TOP_ADDRESS)
+            (_, *before), (_, *after) = states(programs, part, [found - 1, found], room, machines.TOP_ADDRESS)
             difference = found, before, after
             if None not in before and before[0].memory == before[1].memory:
                 break
     return difference
 
 
-def first_in(programs, tape, last, room, top):
+def first_in(programs, part, last, room, top):
     """The first step after which the states differ, given that they differ after the last one. It is sought as if states that differ stayed different."""
-    low, high, found = 0, last, {}
+    low, high, found = part.begun.steps if part.begun else 0, last, {}
     while high - low > 1 or high not in found or low not in found:
         width = high - low
         counts = sorted({low, high, *(low + width * index // TRIED for index in range(1, TRIED))})
-        for count, mine, other in states(programs, tape, [count for count in counts if count not in found], room, top):
+        for count, mine, other in states(programs, part, [count for count in counts if count not in found], room, top):
             found[count] = (mine, other)
         low = max(count for count in counts if is_same(*found[count])) if any(is_same(*found[count]) for count in counts) else low
         after = [count for count in counts if count > low and not is_same(*found[count])]

@@ -1,11 +1,14 @@
 """The kind `tapes`: random programs on m11's machine and on SIMH's 11/40."""
 from against_peers import machines
+from against_peers.machines import Part
 from against_peers.programs import program_of
 from against_peers.results import AGREES, Result
 from against_peers.search import first_difference, is_same
 from against_peers.tape_rules import COMPUTED, SEEN, Failed, trapped, word_of
 
 NAME = "tapes"
+# How many steps of a program may differ. What follows the last of them isn't compared.
+MOST = 8
 STOPS = {"HALT": "HALT instruction", "LIMIT": "Step expired", "WAIT": "Step expired"}
 
 
@@ -18,44 +21,58 @@ def check(programs, seed, numbers, room):
     """The results for the tapes with these numbers, which SIMH runs in one start."""
     tapes = [(number, program_of(seed, number)) for number in numbers]
     mine = [machines.ours(programs, program.tape(), program.steps, room) for _, program in tapes]
-    other = machines.theirs(programs, [(program.tape(), state) for (_, program), state in zip(tapes, mine)], room)
+    other = machines.theirs(programs, [(Part(program.tape()), state) for (_, program), state in zip(tapes, mine)], room)
     for (number, program), one, two in zip(tapes, mine, other):
         yield number, result(programs, program.tape(), one, two, room), shown(program)
 
 
-def result(programs, tape, mine, other, room):
-    """The result for a tape with these states."""
-    agrees = is_same(mine, other) and STOPS.get(mine.stop) == other.stop and not mine.console
-    return AGREES if agrees else explained(programs, tape, mine, room)
+def result(programs, tape, last, other, room):
+    """The result for a tape with these last states. After a step that differs by a rule SIMH goes on in the state of m11's machine."""
+    part, rules = Part(tape), []
+    while not agrees(part, last, other):
+        rule, after, text = explained(programs, part, last, room)
+        if text:
+            return Result(sorted(set(rules)), text)
+        rules.append(rule)
+        if after.steps == last.steps or len(rules) == MOST:
+            break
+        part = Part(tape, after)
+        other = machines.theirs(programs, [(part, last)], room)[0]
+    return Result(sorted(set(rules))) if rules else AGREES
 
 
-def explained(programs, tape, last, room):
-    """The result for a tape that differs: the rule of its first step that does."""
-    found = first_difference(programs, tape, last.steps, room)
+def agrees(part, mine, other):
+    """Whether SIMH ends a part as m11's machine does. It prints no stop if it makes no step."""
+    return is_same(mine, other) and (not part.steps_to(mine) or STOPS.get(mine.stop) == other.stop) and not mine.console
+
+
+def explained(programs, part, last, room):
+    """The rule of the first step of a part that differs, the state after it, and what is unexplained if there is no rule."""
+    found = first_difference(programs, part, last.steps, room)
     if found is None:
-        return Result([], "the states of single steps don't differ")
+        return None, None, "the states of single steps don't differ"
     step, (before, _), (mine, other) = found
     try:
         code = word_of(before, before.registers[7])
     except Failed:
         code = 0
     for name, (rule, _) in COMPUTED.items():
-        if is_computed(programs, tape, rule, before, mine, code, room):
-            return Result([name])
+        if is_computed(programs, part, rule, before, mine, code, room):
+            return name, mine, ""
     for name, (rule, _) in SEEN.items():
         if is_seen(rule, before, mine, other, code):
-            return Result([name])
-    return Result([], text_of(step, code, before, mine, other))
+            return name, mine, ""
+    return None, None, text_of(step, code, before, mine, other)
 
 
-def is_computed(programs, tape, rule, before, mine, code, room):
+def is_computed(programs, part, rule, before, mine, code, room):
     """Whether SIMH has the state after the trap that a rule finds."""
     try:
         found = rule(before, mine, code)
         wanted = found and trapped(*found)
     except Failed:
         return False
-    return wanted is not None and is_same(wanted, machines.theirs(programs, [(tape, wanted)], room)[0])
+    return wanted is not None and is_same(wanted, machines.theirs(programs, [(part, wanted)], room)[0])
 
 
 def is_seen(rule, before, mine, other, code):
