@@ -112,7 +112,17 @@ def cases(kind, seed, number, fuzzer):
 
 
 def judged_lengths(kind, seed, number, fuzzer):
-    """The last case that was made of those with three lengths, its run, and what is wrong with it or with their times."""
+    """The last case that was made of those with three lengths, its run, and what is wrong with it or with their times. Times that grow are measured
+    again, since a machine with more to do may have made one of them longer."""
+    case, done, wrong, times = measured(kind, seed, number, fuzzer)
+    if not wrong and growth(times):
+        case, done, wrong, again = measured(kind, seed, number, fuzzer)
+        times = [min(pair) for pair in zip(times, again)]
+    return case, done, wrong or growth(times)
+
+
+def measured(kind, seed, number, fuzzer):
+    """The last case that was made, its run, what is wrong with it, and the times of all if that is nothing."""
     times = []
     for case in cases(kind, seed, number, fuzzer):
         fuzzer.folders.make(case)
@@ -120,8 +130,8 @@ def judged_lengths(kind, seed, number, fuzzer):
         wrong = judged(case, done, fuzzer.folders, LONG_PATIENCE)
         times.append(done.seconds)
         if wrong:
-            return case, done, wrong
-    return case, done, growth(times)
+            break
+    return case, done, wrong, times
 
 
 def growth(times):

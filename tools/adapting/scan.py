@@ -1,4 +1,5 @@
 """Lines and their parts: where labels, operators, operands, actuals and comments begin and end."""
+import functools
 import re
 
 from .names import six
@@ -61,6 +62,12 @@ class Statement:
         self.a = self.b = len(self.text) - len(rest)
         if rest and rest[0] != ";":
             self.kind = "words"
+
+
+@functools.lru_cache(maxsize=1 << 16)
+def statement_of(text):
+    """The statement of a line. Each step goes through all lines, so it isn't made anew each time."""
+    return Statement(text)
 
 
 def skip_blanks(text, at):

@@ -1,7 +1,10 @@
 """Goes through the lines of a program, with the bodies that contain each of them."""
 from .names import CLOSERS, DEEPEST, OPENERS, six
-from .scan import NAME, Statement
+from .scan import NAME, statement_of
 from .macros import formals_of
+
+
+NO_NAMES = frozenset()
 
 
 class Place:
@@ -15,13 +18,13 @@ def walk(lines):
     """The place of each line. Bodies that are nested too deep aren't told from the one around them."""
     bodies, deeper = [], 0
     for index, line in enumerate(lines):
-        statement = Statement(line.text)
+        statement = statement_of(line.text)
         operator = statement.op if statement.kind == "operator" else ""
         if operator in CLOSERS and deeper:
             deeper -= 1
         elif operator in CLOSERS and bodies:
             bodies.pop()
-        formals = set().union(*(names for _, names in bodies))
+        formals = set().union(*(names for _, names in bodies)) if bodies else NO_NAMES
         yield Place(index, statement, formals, [macro for macro, _ in bodies if macro])
         if operator in OPENERS and len(bodies) == DEEPEST:
             deeper += 1

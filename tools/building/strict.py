@@ -8,7 +8,7 @@ import re
 from adapting.directives import inner_statement
 from adapting.macros import KEYWORD, formals_of
 from adapting.names import CLOSERS, DIRECTIVES, INSTRUCTIONS, TEXTS, six
-from adapting.scan import DELIMITED, NAME, WIDTH, Statement, actuals, comment_place, tokens
+from adapting.scan import DELIMITED, NAME, WIDTH, actuals, comment_place, statement_of, tokens
 from adapting.walk import defined_names, walk
 
 from .divisions import LARGEST, Divisions
@@ -43,7 +43,7 @@ class Strict:
 
     def is_mode(self, line, *modes):
         """Whether a line switches one of these modes on or off."""
-        statement = Statement(self.old(line))
+        statement = statement_of(self.old(line))
         if statement.kind != "operator" or statement.op not in (".ENABL", ".DSABL"):
             return False
         text = statement.text
@@ -54,7 +54,7 @@ class Strict:
         replaced = set()
         for line in self.lines:
             old = self.old(line)
-            statement = inner_statement(line.with_text(old), Statement(old))
+            statement = inner_statement(line.with_text(old), statement_of(old))
             if statement.kind == "operator" and statement.op == ".ERROR" and line.text != old and ";" in line.text:
                 line.text = old[:statement.a] + ERROR_LINE
                 self.module.reasons[id(line)] = "this .ERROR is reached, and DEC's assembler reports it"
