@@ -5,8 +5,8 @@ import subprocess
 from pathlib import Path
 
 TOP = Path(__file__).resolve().parent.parent.parent
-# No run here takes a tenth of this; what takes longer hangs.
-PATIENCE = 5
+# No run here takes a tenth of this, unless a machine has much more to do; what takes longer hangs.
+PATIENCE = 60
 
 
 class Hung(Exception):
