@@ -239,3 +239,17 @@ SEEN = {"register-first": (register_first, PROCESSOR + "#operands"), "codes-of-a
 COMPUTED = {"trace-of-a-return": (trace_of_a_return, PROCESSOR + "#stack-jumps-and-traps"), "stack-limit": (stack_limit, PROCESSOR),
             "trace-of-a-wait": (trace_of_a_wait, PROCESSOR + "#stack-jumps-and-traps"),
             "jump-to-a-register": (jump_to_a_register, PROCESSOR + "#stack-jumps-and-traps")}
+
+
+def computed(before, mine, code):
+    """The states that SIMH may have by COMPUTED, each with the names of its rules. A trap may push below the stack limit, and then another one follows."""
+    for name, (rule, _) in COMPUTED.items():
+        try:
+            found = rule(before, mine, code)
+            state = found and trapped(*found)
+            if state:
+                yield [name], state
+            if state and name != "stack-limit" and state.registers[SP] < STACK_LIMIT:
+                yield [name, "stack-limit"], trapped(state, 4)
+        except Failed:
+            continue

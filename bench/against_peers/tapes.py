@@ -4,7 +4,7 @@ from against_peers.machines import Part
 from against_peers.programs import program_of
 from against_peers.results import AGREES, Result
 from against_peers.search import first_difference, is_same
-from against_peers.tape_rules import COMPUTED, SEEN, Failed, trapped, word_of
+from against_peers.tape_rules import SEEN, Failed, computed, word_of
 
 NAME = "tapes"
 # How many steps of a program may differ. What follows the last of them isn't compared.
@@ -30,15 +30,15 @@ def result(programs, tape, last, other, room):
     """The result for a tape with these last states. After a step that differs by a rule SIMH goes on in the state of m11's machine."""
     part, rules = Part(tape), []
     while not agrees(part, last, other):
-        rule, after, text = explained(programs, part, last, room)
+        names, after, text = explained(programs, part, last, room)
         if text:
-            return Result(sorted(set(rules)), text)
-        rules.append(rule)
+            return Result(sorted(set().union(*rules)), text)
+        rules.append(names)
         if after.steps == last.steps or len(rules) == MOST:
             break
         part = Part(tape, after)
         other = machines.theirs(programs, [(part, last)], room)[0]
-    return Result(sorted(set(rules))) if rules else AGREES
+    return Result(sorted(set().union(*rules))) if rules else AGREES
 
 
 def agrees(part, mine, other):
@@ -47,32 +47,22 @@ def agrees(part, mine, other):
 
 
 def explained(programs, part, last, room):
-    """The rule of the first step of a part that differs, the state after it, and what is unexplained if there is no rule."""
+    """The rules of the first step of a part that differs, the state after it, and what is unexplained if there is no rule."""
     found = first_difference(programs, part, last.steps, room)
     if found is None:
-        return None, None, "the states of single steps don't differ"
+        return [], None, "the states of single steps don't differ"
     step, (before, _), (mine, other) = found
     try:
         code = word_of(before, before.registers[7])
     except Failed:
         code = 0
-    for name, (rule, _) in COMPUTED.items():
-        if is_computed(programs, part, rule, before, mine, code, room):
-            return name, mine, ""
+    for names, wanted in computed(before, mine, code):
+        if is_same(wanted, machines.theirs(programs, [(part, wanted)], room)[0]):
+            return names, mine, ""
     for name, (rule, _) in SEEN.items():
         if is_seen(rule, before, mine, other, code):
-            return name, mine, ""
-    return None, None, text_of(step, code, before, mine, other)
-
-
-def is_computed(programs, part, rule, before, mine, code, room):
-    """Whether SIMH has the state after the trap that a rule finds."""
-    try:
-        found = rule(before, mine, code)
-        wanted = found and trapped(*found)
-    except Failed:
-        return False
-    return wanted is not None and is_same(wanted, machines.theirs(programs, [(part, wanted)], room)[0])
+            return [name], mine, ""
+    return [], None, text_of(step, code, before, mine, other)
 
 
 def is_seen(rule, before, mine, other, code):
