@@ -209,7 +209,7 @@ class Repository:
                 with open(f"/proc/{number}/environ", "rb") as file:
                     is_ours = b"HOME=" + self.folder.encode() in file.read().split(b"\0")
                 with open(f"/proc/{number}/cmdline", "rb") as file:
-                    words = file.read().replace(b"\0", b" ").decode()
+                    words = file.read().replace(b"\0", b" ").decode("utf-8", "replace")
                 if is_ours and session in (None, os.getsid(int(number))):
                     found.append((int(number), words))
             except OSError:
