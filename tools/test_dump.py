@@ -362,8 +362,24 @@ CASES = (
      "  000004 GLOBAL DISPLACED OTHER\n" + SHOWN_END, ""),
     ("relocations between the words of an instruction", "-d A.OBJ",
      {"A.OBJ": FRONT + text(0, 0o12737, 0) + block(word(4) + b"\1\6" + word(2)) + text(4, 0, 0) + CALL + END}, 0,
-     "OBJECT A.OBJ\n" + SHOWN_FRONT + "TEXT 000000\n  000000 012737 000000 000000 MOV    #0,@#0\n  000002 INTERNAL 000002\n"
+     "OBJECT A.OBJ\n" + SHOWN_FRONT + "TEXT 000000\n  000000 012737 000000 000000 MOV    #2,@#0\n  000002 INTERNAL 000002\n"
      "TEXT 000004\n  000004 GLOBAL DISPLACED OTHER\n  000006 000000               HALT\n" + SHOWN_END, ""),
+    ("operands by what their words refer to", "-d A.OBJ",
+     {"A.OBJ": FRONT + text(0, 0o12737, 0, 0, 0o16761, 0, 0, 0o5077, 0) + block(
+         word(4) + b"\5\6" + name("OTHER") + word(4) + b"\12\10" + name("CODE") + b"\16\14" + name("OLD") + word(2) + b"\2\16" + name("OTHER")
+         + b"\4\22" + name("OTHER")) + END}, 0,
+     "OBJECT A.OBJ\n" + SHOWN_FRONT + "TEXT 000000\n  000000 012737 000000 000000 MOV    #OTHER+4,@#CODE\n  000002 GLOBAL ADDITIVE OTHER  000004\n"
+     "  000004 SECTION CODE\n  000006 016761 000000 000000 MOV    OLD+2,OTHER(R1)\n  000010 SECTION ADDITIVE DISPLACED OLD    000002\n"
+     "  000012 GLOBAL OTHER\n  000014 005077 000000        CLR    @OTHER\n  000016 GLOBAL DISPLACED OTHER\n" + SHOWN_END, ""),
+    ("operands whose relocations are of another kind", "-d A.OBJ",
+     {"A.OBJ": FRONT + text(0, 0o12700, 0, 0o5067, 0, 0o5037, 0) + block(
+         word(4) + b"\4\6" + name("OTHER") + b"\2\12" + name("OTHER") + b"\202\16" + name("OTHER")) + END}, 0,
+     "OBJECT A.OBJ\n" + SHOWN_FRONT + "TEXT 000000\n  000000 012700 000000        MOV    #0,R0\n  000002 GLOBAL DISPLACED OTHER\n"
+     "  000004 005067 000000        CLR    10\n  000006 GLOBAL OTHER\n  000010 005037 000000        CLR    @#0\n  000012 GLOBAL OTHER  BYTE\n" + SHOWN_END, ""),
+    ("locations and absolute addresses in operands", "-d A.OBJ",
+     {"A.OBJ": FRONT + text(0, 0o12700, 7, 0o5067, 0) + block(word(4) + b"\1\6" + word(0o20) + b"\3\12" + word(0o177564)) + END}, 0,
+     "OBJECT A.OBJ\n" + SHOWN_FRONT + "TEXT 000000\n  000000 012700 000007        MOV    #20,R0\n  000002 INTERNAL 000020\n"
+     "  000004 005067 000000        CLR    177564\n  000006 INTERNAL DISPLACED 177564\n" + SHOWN_END, ""),
     ("a text that is shown in the line before it", "-d A.OBJ", {"A.OBJ": FRONT + text(0, 0o4767) + text(2, 0) + CALL + text(4, 0o241) + END}, 0,
      "OBJECT A.OBJ\n" + SHOWN_FRONT + "TEXT 000000\n  000000 004767 000000        JSR    PC,4\nTEXT 000002\n"
      "  000002 GLOBAL DISPLACED OTHER\nTEXT 000004\n  000004 000241               CLC\n" + SHOWN_END, ""),
