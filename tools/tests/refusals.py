@@ -23,6 +23,7 @@ CONVERTS = re.compile(r"fn from\(_?\w+: (?:AllocFailed|\w+Error|\w+Fault|\w+Refu
 OTHERWISE = {
     ("crates/m11_cli_tasks/src/arguments.rt", "word"): "a word of the process fits no buffer",
     ("crates/m11_link_load_map/src/name_files.rt", "hold_object"): "one of two growths was refused",
+    ("crates/m11_tracer/src/driver.rt", "refuse_places"): "a refusal that is of no value is one of memory, as AsksFor says",
 }
 
 
