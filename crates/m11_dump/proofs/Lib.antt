@@ -14,7 +14,9 @@ pub mod Accepting
 pub mod Reading
 pub mod LibraryStarts
 pub mod Listing
+pub mod ReadingBlocks
 pub mod Taping
+pub mod ReadingWhole
 pub mod WordsShown
 pub mod EachLine
 pub mod EachPlace

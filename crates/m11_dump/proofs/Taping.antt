@@ -1,5 +1,5 @@
 -- The blocks of a tape, read and shown one after another.
-use Rattle.std.proofs.Common.{◌≡◌, ◌∙◌, ◌⊎◌, ℕ, suc, ◌+◌, ◌-◌, ◌%◌, ◌^◌, ◌<◌, ◌≤◌, List, [], ◌∷◌, ◌++◌, append-nil, append_assoc, length, sum, Option, Some, None, Result, Ok, Err, inl, inr, refl, sym, ap, subst, arith}
+use Rattle.std.proofs.Common.{◌≡◌, ◌∙◌, ℕ, suc, ◌+◌, ◌-◌, ◌%◌, ◌^◌, ◌<◌, ◌≤◌, List, [], ◌∷◌, ◌++◌, append-nil, append_assoc, length, sum, Option, Some, None, Result, Ok, Err, inl, inr, refl, sym, ap, subst, arith}
 use Rattle.std.proofs.lemmas.List.{length-append}
 use Rattle.std.specs.List.{concat}
 use Rattle.std.specs.Prelude.{⊤}
@@ -7,26 +7,23 @@ use Rattle.m11_obj_blocks.specs.declared.tape_fault.TapeFault.{TapeFault}
 use Rattle.m11_obj_blocks.specs.declared.tape_part.TapePart.{TapePart}
 use Rattle.m11_obj_blocks.specs.declared.tape_part.TapePart.TheVariants.{Data, Start}
 use Rattle.m11_obj_blocks.specs.declared.tape_part.TapeStage.{TapeStage}
-use Rattle.m11_obj_blocks.specs.declared.tape_part.TapeStage.TheVariants.{BeforeBlock, InBlock, AtEnd, AfterFault}
-use Rattle.m11_obj_blocks.specs.Limited.{Position, Read, Reads, Took}
-use Rattle.m11_obj_blocks.specs.Tapes.{AreRead, IsTape, ReadsByte, ReadsNext, ReadsPart, data_byte, first_part, left_of, next_part, opened, stage_after, stage_within, tape_header, total_of, why_of}
+use Rattle.m11_obj_blocks.specs.declared.tape_part.TapeStage.TheVariants.{BeforeBlock, InBlock, AfterFault}
+use Rattle.m11_obj_blocks.specs.Limited.{Position, Reads, Took}
+use Rattle.m11_obj_blocks.specs.Tapes.{ReadsByte, ReadsNext, ReadsPart, data_byte, first_part, left_of, opened, stage_within, tape_header, why_of}
 use Rattle.m11_obj_blocks.proofs.Limits.{took_nothing, took_then}
-use Rattle.m11_obj_blocks.proofs.ReadSteps.{bytes_then, rest_is, value_is}
-use Rattle.m11_obj_blocks.proofs.TapeFrames.{opened_all, opened_more, tape_framed}
+use Rattle.m11_obj_blocks.proofs.ReadSteps.{rest_is, value_is}
+use Rattle.m11_obj_blocks.proofs.TapeFrames.{opened_all, opened_more}
 use Rattle.m11_base_writes.specs.States.{OutputState}
 use Rattle.m11_base_writes.specs.States as writes
 use Rattle.m11_dump.proofs.Gaining.{appends_nothing, gained_then, gained_texts}
 use Rattle.m11_dump.specs.Objects.{FailsToPut, Gained, Puts}
-use Rattle.m11_dump.specs.Positions.{StopsAt, count_read, fault_byte, placed_at, stop_byte}
-use Rattle.m11_dump.proofs.Offsets.{stops_at}
-use Rattle.m11_dump.specs.Tapes.{TapeView, DumpsTape, EndsHeld, EndsHeldBy, GivesBlocks, HeldFits, Hold, ReadsData, ShowsHeld, ShowsStart, StopsData, StopsHeld, StopsInside, TextsRead, beyond, block_texts, blocks_before, held_beyond, held_block, held_over, held_shown, held_text, over, part_after, said_after, start_text, tape_text, texts_from}
+use Rattle.m11_dump.specs.Positions.{count_read, fault_byte, placed_at, stop_byte}
+use Rattle.m11_dump.proofs.ReadingBlocks.{HaveRead, IsBeforePart, block_read, last_read, none_follows, none_open, part_lacks, room_is_less, whole_read}
+use Rattle.m11_dump.specs.Tapes.{TapeView, DumpsTape, EndsHeld, EndsHeldBy, GivesBlocks, HeldFits, ReadsData, ShowsHeld, ShowsStart, StopsData, StopsHeld, StopsReading, TextsRead, beyond, block_texts, blocks_before, held_beyond, held_block, held_over, held_shown, held_text, over, part_after, said_after, start_text, tape_text, texts_from}
 use Rattle.m11_dump.specs.declared.fault.DumpFault.{DumpFault}
 use Rattle.m11_dump.specs.declared.fault.DumpFault.TheVariants as fault
 use Rattle.m11_dump.specs.declared.fault.LocatedFault.{LocatedFault}
 use Rattle.m11_dump.specs.declared.tapes.Held.{Held}
-
-abbrev Reader : Type 0
-Reader = List ℕ → Read TapeFault TapePart
 
 -- ---- the data of a block
 
@@ -83,6 +80,11 @@ module _ (old here : Position) (address count index : ℕ) (stage : TapeStage) (
         stands = (byte_read new after (Ok byte) r).1 ∙ opened_more address count byte taken;
       }
 
+  pub memory_lacks : index < count → (new : Position) (after : TapeStage) (byte : ℕ) → ReadsByte stage here new after (Ok byte)
+      → StopsData fault.NoMemory old new count
+  memory_lacks more new after byte r =
+      let one = one_taken new after byte r in (taken ++ byte ∷ [], one.took, omega (arith, one.long, more))
+
   pub all_taken : count ≤ index → index ≤ count → ReadsData old here stage address count taken
   all_taken all most =
       let long : count ≡ length taken = omega (arith, t.long) in (
@@ -126,35 +128,6 @@ pub ends_shown : (view : TapeView) (held : Option Held) (address passed count n 
 ends_shown view held address passed count n output middle output' shown outcome is s e =
     let P : Result ℕ LocatedFault → Type 0 = λ x. ShowsHeld view held [] count output middle x in
     (Ok n, middle, subst P is s, e)
-
--- ---- one more block
-
-after_more : (read : Reader) (blocks : List (ℕ × List ℕ)) (address : ℕ) (content : List ℕ)
-    → part_after read (blocks ++ (address, content) ∷ []) ≡ next_part (total_of address content)
-after_more read [] address content = refl
-after_more read (block ∷ blocks) address content =
-    after_more (next_part (total_of block.0 block.1)) blocks address content
-
-hold_more : (read : Reader) (blocks : List (ℕ × List ℕ)) (address : ℕ) (given header content : List ℕ)
-    → Hold read blocks given
-    → ((rest : List ℕ) → part_after read blocks (header ++ rest) ≡ Ok (Data address (length content), rest))
-    → Hold read (blocks ++ (address, content) ∷ []) (given ++ (header ++ content))
-hold_more read [] address given header content none is = (
-  header,
-  [],
-  ap (λ (l : List ℕ). l ++ (header ++ content)) none ∙ ap (λ (l : List ℕ). header ++ l) (sym (append-nil content)),
-  is,
-  refl,
-)
-hold_more read (block ∷ blocks) address given header content held is =
-    let more : List ℕ = header ++ content in (
-      held.0,
-      held.1 ++ more,
-      ap (λ (l : List ℕ). l ++ more) held.2 ∙ append_assoc held.0 (block.1 ++ held.1) more
-          ∙ ap (λ (l : List ℕ). held.0 ++ l) (append_assoc block.1 held.1 more),
-      held.3,
-      hold_more (next_part (total_of block.0 block.1)) blocks address held.1 header content held.4 is,
-    )
 
 texts_long : (view : TapeView) (shown : ℕ) (blocks : List (ℕ × List ℕ)) → length (texts_from view shown blocks) ≡ length blocks
 texts_long view shown [] = refl
@@ -201,45 +174,7 @@ shown_over view (Some held) after count output output' n s =
     let P : List ℕ → Type 0 = λ text. Gained text output output' in
     (s.1, subst P (sym (append-nil (held_text view held after))) s.0)
 
--- ---- the whole tape
-
-are_read : (read : Reader) (blocks : List (ℕ × List ℕ)) (start : ℕ) (given last : List ℕ)
-    → Hold read blocks given → ((rest : List ℕ) → part_after read blocks (last ++ rest) ≡ Ok (Start start, rest))
-    → AreRead read blocks start (given ++ last)
-are_read read [] start given last none is =
-    ([], ap read (ap (λ (l : List ℕ). l ++ last) none ∙ sym (append-nil last)) ∙ is [])
-are_read read (block ∷ blocks) start given last held is =
-    let following : List ℕ = held.1 ++ last in (
-      following,
-      ap read (ap (λ (l : List ℕ). l ++ last) held.2 ∙ append_assoc held.0 (block.1 ++ held.1) last
-          ∙ ap (λ (l : List ℕ). held.0 ++ l) (append_assoc block.1 held.1 last))
-          ∙ held.3 (block.1 ++ following),
-      are_read (next_part (total_of block.0 block.1)) blocks start held.1 last held.4 is,
-    )
-
-is_tape : (blocks : List (ℕ × List ℕ)) (start : ℕ) (a b c : Position) (given : List ℕ) → Took a b given
-    → Hold first_part blocks given
-    → (last : Reads (part_after first_part blocks) b c (Start start)) → IsTape blocks start (given ++ last.given)
-is_tape blocks start a b c given took held last =
-    tape_framed blocks start (given ++ last.given) (bytes_then given last.given took.bytes last.took.bytes)
-    (are_read first_part blocks start given last.given held last.is)
-
 -- ---- how far a dump has come
-
--- at this stage, the reader reads the next part with this function
-abbrev IsBeforePart : TapeStage → Reader → Type 0
-IsBeforePart BeforeBlock read = read ≡ first_part
-IsBeforePart (InBlock left total) read = (left ≡ 0) × (read ≡ next_part total)
-IsBeforePart (AtEnd address) read = ⊥
-IsBeforePart AfterFault read = ⊥
-
-next_is : (stage : TapeStage) (read : Reader) (old new : Position) (after : TapeStage) (result : Result TapePart TapeFault)
-    → IsBeforePart stage read → ReadsNext stage old new after result
-    → ReadsPart (λ part. part) read old new result × (after ≡ stage_after result)
-next_is BeforeBlock read old new after result stands r = rw stands r
-next_is (InBlock left total) read old new after result stands r = rw stands.1 r
-next_is (AtEnd address) read old new after result stands r = absurd stands
-next_is AfterFault read old new after result stands r = absurd stands
 
 -- these blocks were read, and all but the pending one were shown; the reader is about to read the part after them
 pub record Taping (view : TapeView) (old here : Position) (output output' : OutputState) (stage : TapeStage) (passed : ℕ)
@@ -276,12 +211,6 @@ tape_begins view old output room = record {
   fits = tt;
   number = tt;
 }
-
-none_left : (stage : TapeStage) (read : Reader) → IsBeforePart stage read → left_of stage ≡ 0
-none_left BeforeBlock read stands = refl
-none_left (InBlock left total) read stands = stands.0
-none_left (AtEnd address) read stands = refl
-none_left AfterFault read stands = refl
 
 -- if one of the last two texts can't be written after the texts in `put`, the dump stops for that reason
 module _ (view : TapeView) (old here new : Position) (output output' final : OutputState) (blocks : List (ℕ × List ℕ))
@@ -350,8 +279,16 @@ module _ (view : TapeView) (old here new : Position) (output output' final : Out
 
 module _ (view : TapeView) (old here : Position) (output output' : OutputState) (stage : TapeStage) (passed : ℕ) (held : Option Held)
     (blocks : List (ℕ × List ℕ)) (d : Taping view old here output output' stage passed held blocks) where
+  abbrev reading : HaveRead old here stage blocks
+  reading = record {
+    gives = d.gives;
+    before = d.before;
+    whole = d.whole;
+    few = omega (arith, d.few, d.counts);
+  }
+
   pub block_ended : left_of stage ≡ 0
-  block_ended = none_left stage (part_after first_part blocks) d.before
+  block_ended = none_open old here stage blocks reading
 
   pub blocks_few : passed < 2 ^ 32
   blocks_few = omega (arith, d.few)
@@ -386,10 +323,7 @@ module _ (view : TapeView) (old here : Position) (output output' : OutputState) 
   -- why no further block was read, and how many blocks come before the one that is told
   abbrev pub Reason : DumpFault → ℕ → Position → Type 0
   Reason (fault.Tape inner) before new =
-      ((before ≡ blocks_before (length blocks) (length d.gives.given) (stop_byte (why_of inner) (count_read new)))
-      × StopsAt (part_after first_part blocks) (why_of inner) here new d.gives.given (stop_byte (why_of inner) (count_read new)))
-      ⊎ ((before ≡ length blocks)
-      × StopsInside (part_after first_part blocks) inner here new d.gives.given (stop_byte (why_of inner) (count_read new)))
+      StopsReading inner here new blocks d.gives.given before (stop_byte (why_of inner) (count_read new))
   Reason fault.NoMemory before new = before ≡ passed
   Reason fault.Write before new = ⊥
   Reason (fault.Block inner) before new = ⊥
@@ -439,38 +373,19 @@ module _ (view : TapeView) (old here : Position) (output output' : OutputState) 
       subst P (sym s.2) (stops_by new final f before why s.0 s.1)
 
   module _ (new : Position) (after : TapeStage) (result : Result TapePart TapeFault) (r : ReadsNext stage here new after result) where
-    part_read : ReadsPart (λ part. part) (part_after first_part blocks) here new result × (after ≡ stage_after result)
-    part_read = next_is stage (part_after first_part blocks) here new after result d.before r
-
-    part_as : (same : Result TapePart TapeFault) → result ≡ same
-        → ReadsPart (λ part. part) (part_after first_part blocks) here new same
-    part_as same is = subst
-        (λ (a : Result TapePart TapeFault). ReadsPart (λ part. part) (part_after first_part blocks) here new a) is
-        part_read.0
-
-    pub stage_is : (same : Result TapePart TapeFault) → result ≡ same → after ≡ stage_after same
-    stage_is same is = part_read.1 ∙ ap stage_after is
-
     pub part_stops : (inner : TapeFault) → result ≡ Err inner → (final : OutputState) (before : ℕ) (said : LocatedFault)
         → before ≡ blocks_before passed (count_read here) (stop_byte (why_of inner) (count_read new))
         → StopsHeld view held (fault.Tape inner) before (count_read new) output' final said
         → DumpsTape view old new output final (Err said)
     part_stops inner is final before said number s =
         let byte = stop_byte (why_of inner) (count_read new) in
-        let end : count_read here ≡ length d.gives.given = omega (arith, d.whole, d.gives.took.room) in
-        let before_is : before ≡ blocks_before (length blocks) (length d.gives.given) byte =
-        number ∙ ap (λ (n : ℕ). blocks_before n (count_read here) byte) d.counts
-        ∙ ap (λ (n : ℕ). blocks_before (length blocks) n byte) end in
         stops_held new final (fault.Tape inner) before said
-        (inl (
-          before_is,
-          stops_at (part_after first_part blocks) (why_of inner) old here new d.gives.given byte d.whole d.gives.took
-              (part_as (Err inner) is) refl,
-        )) s
+        (none_follows old here stage blocks reading new after result r inner is before
+        (number ∙ ap (λ (n : ℕ). blocks_before n (count_read here) byte) d.counts)) s
 
     module _ (start : ℕ) (is : result ≡ Ok (Start start)) (final : OutputState) where
-      last : Reads (part_after first_part blocks) here new (Start start)
-      last = part_as (Ok (Start start)) is
+      abbrev last : Reads (part_after first_part blocks) here new (Start start)
+      last = last_read old here stage blocks reading new after result r start is
 
       module _ (middle : OutputState) (gained : Gained (tape_text view blocks) output middle) where
         start_refused : (f : DumpFault) → FailsToPut (start_text start) middle final f
@@ -489,7 +404,7 @@ module _ (view : TapeView) (old here : Position) (output output' : OutputState) 
           here = here;
           gives = d.gives;
           last = last;
-          tape = is_tape blocks start old here new d.gives.given d.gives.took d.gives.hold last;
+          tape = whole_read old here stage blocks reading new after result r start is;
           gained = gained_then output middle final (tape_text view blocks) (start_text start) gained s;
         }
         start_shown (Err said) s =
@@ -510,9 +425,6 @@ module _ (view : TapeView) (old here : Position) (output output' : OutputState) 
       tape_ends outcome e = ends_by e.1 e.0 outcome e.2 e.3
 
     module _ (address count : ℕ) (is : result ≡ Ok (Data address count)) (end : Position) (final : OutputState) where
-      header : Reads (part_after first_part blocks) here new (Data address count)
-      header = part_as (Ok (Data address count)) is
-
       reason : (f : DumpFault) → StopsData f new end count → Reason f passed end
       reason fault.Write s = absurd s
       reason fault.NoMemory s = refl
@@ -520,22 +432,8 @@ module _ (view : TapeView) (old here : Position) (output output' : OutputState) 
       reason (fault.Record inner) s = absurd s
       reason (fault.Rule inner) s = absurd s
       reason (fault.Tape inner) s =
-          let before = took_then old here s.1 d.gives.given (header.given ++ s.0) d.gives.took
-          (took_then here new s.1 header.given s.0 header.took s.2) in
-          let stops : StopsInside (part_after first_part blocks) inner here end d.gives.given (stop_byte (why_of inner) (count_read end)) = (
-            s.1,
-            record {
-              address = address;
-              count = count;
-              opened = new;
-              header = header;
-              taken = s.0;
-              took = s.2;
-              some = s.3;
-            },
-            stops_at data_byte (why_of inner) old s.1 end (d.gives.given ++ (header.given ++ s.0))
-                (stop_byte (why_of inner) (count_read end)) d.whole before s.4 refl,
-          ) in inr (d.counts, stops)
+          let P : ℕ → Type 0 = λ n. StopsReading inner here end blocks d.gives.given n (stop_byte (why_of inner) (count_read end)) in
+          subst P (sym d.counts) (part_lacks old here stage blocks reading new after result r address count is end inner s)
 
       pub data_fails : (f : DumpFault) (said : LocatedFault) → StopsData f new end count
           → StopsHeld view held f passed (count_read end) output' final said → DumpsTape view old end output final (Err said)
@@ -545,21 +443,11 @@ module _ (view : TapeView) (old here : Position) (output output' : OutputState) 
         abbrev all : List (ℕ × List ℕ)
         all = blocks ++ (address, bytes) ∷ []
 
-        own : Reads (part_after first_part blocks) here new (Data address (length bytes))
-        own =
-            let P : ℕ → Type 0 = λ n. Reads (part_after first_part blocks) here new (Data address n) in
-            subst P (sym t.0) header
-
         pub tape_room_falls : end.room < here.room
-        tape_room_falls = omega (arith, header.took.room, t.1.room, t.0, some)
+        tape_room_falls = room_is_less old here stage blocks reading new after result r address count is end bytes stage' some t
 
-        gives_all : GivesBlocks old end all
-        gives_all = record {
-          given = d.gives.given ++ (own.given ++ bytes);
-          took = took_then old here end d.gives.given (own.given ++ bytes) d.gives.took
-              (took_then here new end own.given bytes own.took t.1);
-          hold = hold_more first_part blocks address d.gives.given own.given bytes d.gives.hold own.is;
-        }
+        read_all : HaveRead old end stage' all
+        read_all = block_read old here stage blocks reading new after result r address count is end bytes stage' some t
 
         all_texts : (more : List (ℕ × List ℕ)) → texts_from view 0 (all ++ more)
             ≡ d.put ++ (held_texts view held (held_beyond held (address, bytes))
@@ -578,7 +466,7 @@ module _ (view : TapeView) (old here : Position) (output output' : OutputState) 
             let one : length others ≤ 1 = omega arith in
             let texts : block_texts view all ≡ d.put ++ (held_texts view held (held_beyond held (address, bytes)) ++ others) =
             ap (λ (l : List (ℕ × List ℕ)). texts_from view 0 l) (sym (append-nil all)) ∙ all_texts [] in
-            held_refused view old end end output output' final all gives_all d.put others (block_texts view all) d.gained
+            held_refused view old end end output output' final all read_all.gives d.put others (block_texts view all) d.gained
             (inl refl) one held (held_beyond held (address, bytes)) said texts d.number s
 
         -- the new pending block
@@ -594,13 +482,12 @@ module _ (view : TapeView) (old here : Position) (output output' : OutputState) 
           data_shown =
               let less = tape_room_falls in
               let shows = shown_over view held (held_beyond held (address, bytes)) (count_read end) output' final n s in
-              let S : TapeStage → Type 0 = λ x. IsBeforePart x (part_after first_part all) in
               let next_is : ◌≡◌ {A = ℕ × List ℕ} (next.address, next.bytes.items) (address, bytes) = cc in
               let shown_is : next.shown ≡ over_of view held (held_beyond held (address, bytes)) = over ∙ shows.0 in
               let long : length next.bytes.items ≡ count = ap (λ (l : List ℕ). length l) with ∙ t.0 in
               record {
-                gives = gives_all;
-                before = subst S (sym t.2) (refl, after_more first_part blocks address bytes);
+                gives = read_all.gives;
+                before = read_all.before;
                 counts = omega (arith, d.counts, length-append blocks ((address, bytes) ∷ []));
                 whole = d.whole;
                 few = omega (arith, d.few, less);

@@ -13,5 +13,6 @@ pub mod LibraryStart
 pub mod Libraries
 pub mod Words
 pub mod Tapes
+pub mod WholeTapes
 pub mod Kind
 pub mod BesideLaws

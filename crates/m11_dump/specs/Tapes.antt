@@ -117,6 +117,14 @@ StopsInside read inner here new before byte = (inside : Position) × (opened : I
 abbrev pub blocks_before : ℕ → ℕ → ℕ → ℕ
 blocks_before count end byte = if byte == end then count - 1 else count
 
+-- after these blocks, which are the bytes `given`, no further part could be read, or not all data of one; this byte shows why in the block
+-- after `before` blocks
+abbrev pub StopsReading : TapeFault → Position → Position → List (ℕ × Bytes) → Bytes → ℕ → ℕ → Type 0
+StopsReading inner here new blocks given before byte =
+    ((before ≡ blocks_before (length blocks) (length given) byte)
+    × StopsAt (part_after first_part blocks) (why_of inner) here new given byte)
+    ⊎ ((before ≡ length blocks) × StopsInside (part_after first_part blocks) inner here new given byte)
+
 -- the output failed at one of the last two texts, after the `before` texts that precede it were written
 pub record RefusesText (texts : List Bytes) (output output' : OutputState) (before : ℕ) : Type 0 where
   pub put : List Bytes
@@ -142,9 +150,7 @@ pub record LacksText (texts : List Bytes) (output output' : OutputState) (before
 -- part could be read, or not all data of one; a text couldn't be written; or memory was refused
 abbrev pub StopsTape : TapeView → DumpFault → Position → Position → OutputState → OutputState → List (ℕ × Bytes) → Bytes → ℕ → ℕ → Type 0
 StopsTape view (fault.Tape inner) here new output output' blocks given before byte = Gained (tape_text view blocks) output output'
-    × (((before ≡ blocks_before (length blocks) (length given) byte)
-    × StopsAt (part_after first_part blocks) (why_of inner) here new given byte)
-    ⊎ ((before ≡ length blocks) × StopsInside (part_after first_part blocks) inner here new given byte))
+    × StopsReading inner here new blocks given before byte
 StopsTape view fault.Write here new output output' blocks given before byte =
     (texts : List Bytes) × TextsRead view blocks here new texts × RefusesText texts output output' before × (byte ≡ count_read new)
 StopsTape view fault.NoMemory here new output output' blocks given before byte =
@@ -177,11 +183,11 @@ abbrev pub ReadsData : Position → Position → TapeStage → ℕ → ℕ → B
 ReadsData opened end stage address count bytes =
     (length bytes ≡ count) × Took opened end bytes × (stage ≡ InBlock 0 (total_of address bytes))
 
--- not all of the data could be read, or memory was refused for it
+-- not all of the data could be read; or memory was refused for it, after some or all of it was read
 abbrev pub StopsData : DumpFault → Position → Position → ℕ → Type 0
 StopsData (fault.Tape inner) opened new count = (taken : Bytes) × (inside : Position) × Took opened inside taken
     × (length taken < count) × Stops data_byte inside new (why_of inner)
-StopsData fault.NoMemory opened new count = ⊤
+StopsData fault.NoMemory opened new count = (taken : Bytes) × Took opened new taken × (length taken ≤ count)
 StopsData fault.Write opened new count = ⊥
 StopsData (fault.Block inner) opened new count = ⊥
 StopsData (fault.Record inner) opened new count = ⊥

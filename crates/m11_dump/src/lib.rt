@@ -3,7 +3,8 @@
 //! file format"; the lines are this project's own.) The records of an object are checked against the rules of modules. At most the
 //! following is held in memory: for a tape, two blocks, a copy of one and its lines; for an object, one block, one text with its
 //! relocations, a copy of the text, the lines of one record, and the names that the rules need; for a library, one block with its
-//! lines, and, during the search for the first block, the last bytes read, as many as a block may have.
+//! lines, and, during the search for the first block, the last bytes read, as many as a block may have. Another function reads a whole
+//! tape into memory.
 #![tactic(auto)]
 
 // Whether a file is an object, a library or a tape, and how its bytes are shown.
@@ -38,10 +39,12 @@ mod library_start;
 
 pub use libraries::dump_library;
 
-// A tape, a block at a time.
+// A tape, a block at a time, or as a whole.
 mod tapes;
+mod whole_tapes;
 
 pub use tapes::dump_tape;
+pub use whole_tapes::{TapeBlock, WholeTape, read_tape};
 
 // Why a dump stops, and at which byte.
 mod fault;

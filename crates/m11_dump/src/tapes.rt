@@ -131,8 +131,8 @@ fn show_block<S: Sink>(
     Ok(lines.over)
 }
 
-// Reads the `count` bytes of data of a block whose header was read. Faults: `Tape`, if not all of them can be read; `NoMemory`.
-fn read_data<F: Feed>(
+/// Reads the `count` bytes of data of a block whose header was read. Faults: `Tape`, if not all of them can be read; `NoMemory`.
+pub(crate) fn read_data<F: Feed>(
     alloc: Global,
     reader: &mut TapeReader,
     feed: &mut F,
@@ -156,18 +156,18 @@ fn read_data<F: Feed>(
     Ok(bytes)
 }
 
-// This fault in the block after `blocks` blocks, at the byte that shows it: the last one read if the reader refused it, otherwise the
-// next one.
-fn placed_after(fault: DumpFault, blocks: u64, reader: &TapeReader) -> LocatedFault
+/// This fault in the block after `blocks` blocks, at the byte that shows it: the last one read if the reader refused it, otherwise the
+/// next one.
+pub(crate) fn placed_after(fault: DumpFault, blocks: u64, reader: &TapeReader) -> LocatedFault
     requires { blocks < 2 ^ 32 }
     ensures { result ≡ placed_at fault blocks (fault_byte fault (most_bytes - reader.now.room)) }
 {
     placed(fault, blocks, fault_byte(fault, reader.bytes_read()))
 }
 
-// The number of blocks before the one in which this fault was found, where the next part should begin: after `passed` blocks of data, the
-// last of which has its data up to the offset `end`. The byte there is its sum byte, so that a fault at this byte is a fault of that block.
-fn blocks_before(fault: DumpFault, passed: u64, end: u32, reader: &TapeReader) -> u64
+/// The number of blocks before the one in which this fault was found, where the next part should begin: after `passed` blocks of data, the
+/// last of which has its data up to the offset `end`. The byte there is its sum byte, so that a fault at this byte is a fault of that block.
+pub(crate) fn blocks_before(fault: DumpFault, passed: u64, end: u32, reader: &TapeReader) -> u64
     ensures { result ≡ spec.blocks_before passed end (fault_byte fault (most_bytes - reader.now.room)) }
 {
     if fault_byte(fault, reader.bytes_read()) == u64::from(end) {
