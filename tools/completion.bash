@@ -53,7 +53,7 @@ _m11_dump() {
     case ${COMP_WORDS[COMP_CWORD - 1]} in
         -y | --symbols) _m11_files "${COMP_WORDS[COMP_CWORD]}" MAP LST OBJ ;;
         -b | --bottom) ;;
-        *) _m11_words "${COMP_WORDS[COMP_CWORD]}" '-d --disassemble -o --object -t --tape -m --map -b --bottom -y --symbols -h --help'"$(_m11_alone)" OBJ TAP ;;
+        *) _m11_words "${COMP_WORDS[COMP_CWORD]}" '-d --disassemble -s --source -o --object -t --tape -m --map -b --bottom -y --symbols -h --help'"$(_m11_alone)" OBJ TAP ;;
     esac
 }
 

@@ -517,6 +517,31 @@ CASES = (
     ("a bottom with a blank", ("-b", "1 000", "A.OBJ"), PAIR, 2, "", "?M11 USAGE 3 BadOctal OF -b 1 000\n"),
     ("a bottom of other characters", ("-m", "--bottom", "é", "A.OBJ"), PAIR, 2, "", "?M11 USAGE 3 BadOctal OF -b é\n"),
     ("an empty bottom", ("-b", "", "A.OBJ"), PAIR, 2, "", "?M11 USAGE 3 BadOctal OF -b \n"),
+    ("a source", "-s A.TAP",
+     {"A.TAP": block(word(0o1000) + word(0o105737) + word(0o177560) + word(0o100375)) + block(word(0o1006) + word(0o137))
+      + block(word(0o1010) + word(0o1012) + b"\7") + block(word(0o112233) + b"\1\2\1\2") + block(word(0o1000))}, 0,
+     "\t.ASECT\n\t.=1000\nL01000:\n\tTSTB   @#177560\n\tBPL    L01000\n\tJMP    @#L01012\nL01012:\n\t.BYTE  7\n"
+     "\t.=112233\n\t.BYTE  1\n\tBR     112242\n\t.BYTE  2\n\t.END\tL01000\n", ""),
+    ("a source of blocks that overlap, without a start", "--source -d A.TAP",
+     {"A.TAP": block(word(0) + word(0o777) + word(0o241)) + block(word(0o137776) + word(0o240)) + block(word(1) + b"\2") + block(word(3))}, 0,
+     "\t.ASECT\nL00000:\n\tBNE    L00000\n\tCLC\n\t.=137776\n\tNOP\n\t.END\n", ""),
+    ("a label in the upper half of memory, and bytes past its end", "-s A.TAP",
+     {"A.TAP": block(word(0o177776) + word(0o777) + word(0o777)) + block(word(0o177776))}, 0,
+     "\t.ASECT\n\t.=177776\nU77776:\n\tBR     U77776\n\t.END\tU77776\n", ""),
+    ("a source with names, some of which can't be defined", "-s -y A.MAP A.TAP",
+     {"A.MAP": b"GLOBALS\nMAIN   001000\nTPS    177564\nNEXT   001003\nR0     001000\nMAIN   001002\nALSO   001000\n1$     001002\nL01006 000007\n"
+               b"L01012 000006\nUNDEFINED\n",
+      "A.TAP": block(word(0o1000) + word(0o105737) + word(0o177564) + word(0o100002) + word(0o4767) + word(0o177772) + word(0o773) + word(0o137) + word(0o1003))
+               + block(word(0o1000))}, 0,
+     "TPS=177564\nNEXT=1003\nL01006=7\nL01012=6\n\t.ASECT\n\t.=1000\nMAIN:\nALSO:\n\tTSTB   @#TPS\nL01004:\n\tBPL    1012\n\tJSR    PC,L01004\n"
+     "\tBR     1002\n\tJMP    @#NEXT\n\t.END\tMAIN\n", ""),
+    ("a source of a tape without bytes", "-s -t A.TAP", {"A.TAP": block(word(1))}, 0, "\t.ASECT\n\t.END\n", ""),
+    ("a source of an object", "-s A.OBJ", {"A.OBJ": FRONT + REST}, 4, "", "?M11 DUMP 21 NotTape OF A.OBJ\n"),
+    ("a source of a tape and of an object", "-s A.TAP A.OBJ", {"A.TAP": block(word(0o1000)), "A.OBJ": FRONT + REST}, 4, "\t.ASECT\n\t.END\t1000\n",
+     "?M11 DUMP 21 NotTape OF A.OBJ\n"),
+    ("no source of a tape that is cut short", "-s A.TAP", {"A.TAP": block(word(0o1000) + word(0o777)) + block(word(0o1002) + word(0))[:-1]}, 4, "",
+     "?M11 DUMP 20 Tape 2 Truncated IN BLOCK 2 AT BYTE 17 OF A.TAP\n"),
+    ("no source of a file that isn't there", "-s A.TAP", {}, 3, "", "?M11 OPEN A.TAP\n"),
     ("a bottom, and no map", "-b 2000 A.OBJ", {"A.OBJ": b""}, 0, "OBJECT A.OBJ\n", ""),
 )
 

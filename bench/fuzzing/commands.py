@@ -58,7 +58,7 @@ def names(case):
 def dump(case):
     roles = case.chance.choice((("object",), ("object",), ("tape",), ("library",), ("object", "tape", "library", "save")))
     inputs = [case.file(case.chance.choice(roles)) for _ in range(case.chance.choice((1, 1, 1, 2, 4)))]
-    options = [case.maybe(2, "-d"), case.maybe(6, "-o"), case.maybe(6, "-t"), case.maybe(4, "-m"), case.maybe(6, "-b", case.octal())]
+    options = [case.maybe(2, "-d"), case.maybe(4, "-s"), case.maybe(6, "-o"), case.maybe(6, "-t"), case.maybe(4, "-m"), case.maybe(6, "-b", case.octal())]
     case.is_full = case.one_in(30)
     case.words = case.shuffled(inputs, options + [names(case) for _ in range(case.chance.choice((0, 0, 1, 2)))])
 

@@ -20,7 +20,7 @@ FORMS = {
     "asm": (("source", ["-o", "OUT", "-l", "OUT.LST", HERE]), ("source", ["-o", "OUT", HERE])),
     "link": (("object", ["-o", "OUT", "-m", "OUT.MAP", HERE]), ("object", ["-o", "OUT", "OBJECT", HERE])),
     "sim": (("tape", ["-n", "1000", HERE]),),
-    "dump": (("object", [HERE]), ("object", ["-d", HERE]), ("tape", ["-d", HERE]), ("library", [HERE]), ("object", ["-m", HERE]),
+    "dump": (("object", [HERE]), ("object", ["-d", HERE]), ("tape", ["-d", HERE]), ("tape", ["-s", HERE]), ("library", [HERE]), ("object", ["-m", HERE]),
              *((role, ["-d", "-y", HERE, "TAPE"]) for role in NAMES)),
     "trace": (("tape", ["-n", "1000", HERE]), *((role, ["-n", "1000", "-y", HERE, "TAPE"]) for role in NAMES)),
     "build": (("source", ["-o", "OUT", HERE]), ("source", ["--strict", "-v", HERE]), ("source", ["-y", HERE, "SOURCE"]), ("macros", ["-y", HERE, "SOURCE"]),

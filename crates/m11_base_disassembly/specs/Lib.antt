@@ -9,6 +9,7 @@ pub mod Maps
 pub mod Meaning
 pub mod Names
 pub mod Numbers
+pub mod OperandAddresses
 pub mod Places
 pub mod References
 pub mod Rows

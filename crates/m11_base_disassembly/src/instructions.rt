@@ -27,8 +27,8 @@ pub struct Disassembly {
     pub words: usize,
 }
 
-// The word at this index among those after the code, or 0 if it is missing.
-fn word_at(more: &[u16], index: usize) -> u16
+/// The word at this index among those after the code, or 0 if it is missing.
+pub(crate) fn word_at(more: &[u16], index: usize) -> u16
     ensures { result ≡ slice_index more.now index }
 {
     match more.get(index) {
@@ -46,8 +46,8 @@ fn branch_target(location: u16, offset: i8) -> u16
         .wrapping_add(i16::from(offset).cast_unsigned().wrapping_mul(2))
 }
 
-// The target of SOB at this location: this many words before the next instruction.
-fn loop_target(location: u16, count: u8) -> u16
+/// The target of SOB at this location: this many words before the next instruction.
+pub(crate) fn loop_target(location: u16, count: u8) -> u16
     ensures { result ≡ spec.loop_target location count }
 {
     location.wrapping_add(2).wrapping_sub(2 * u16::from(count))
@@ -234,8 +234,8 @@ fn offset_of(instruction: Insn) -> i8
     }
 }
 
-// The target of a branch at this location.
-fn target_of(location: u16, instruction: Insn) -> u16
+/// The target of a branch at this location.
+pub(crate) fn target_of(location: u16, instruction: Insn) -> u16
     ensures { result ≡ spec.branch_target location (spec.offset_of instruction) }
 {
     branch_target(location, offset_of(instruction))
@@ -332,14 +332,26 @@ fn named_source(
     line
 }
 
-// The row whose name is written for this word, if there is one and all words of the instruction are present.
-fn whole_row(word: u16, more: &[u16]) -> Option<Row>
+/// The row whose name is written for this word, if there is one and all words of the instruction are present.
+pub(crate) fn whole_row(word: u16, more: &[u16]) -> Option<Row>
     ensures { result ≡ spec.whole_row word more.now }
 {
     if words_after(&decode(word)) <= more.len() {
         row_named(word)
     } else {
         None
+    }
+}
+
+/// The number of words that the line for a word and the words `more` that follow it is made from: 1 to 3.
+pub fn statement_size(word: u16, more: &[u16]) -> usize
+    ensures words { result ≡ spec.size_of word more.now }
+    ensures some { 0 < result }
+    ensures there { result ≤ 1 + length more.now }
+{
+    match whole_row(word, more) {
+        Some(_) => 1 + words_after(&decode(word)),
+        None => 1,
     }
 }
 

@@ -14,10 +14,12 @@ mod source;
 pub use references::{Reference, References, no_references};
 pub use source::Source;
 
-// The lines of instructions and of data.
+// The lines of instructions and of data, and the addresses in them.
 mod instructions;
+mod operand_addresses;
 
-pub use instructions::{Disassembly, byte_source, disassembled};
+pub use instructions::{Disassembly, byte_source, disassembled, statement_size};
+pub use operand_addresses::{Addresses, addresses};
 
 // The names of addresses: the lines and columns of maps and listings, and their symbols.
 mod columns;
@@ -33,7 +35,9 @@ mod symbols;
 pub use contributions::Contribution;
 pub use map_fault::MapFault;
 pub use maps::{NamesSoFar, read_text};
-pub use symbols::{Scope, Symbol, address_name, value_named};
+pub use symbols::{
+    Scope, Symbol, address_name, address_source, name_source, number_source, value_named,
+};
 
 // The laws that an assembler produces the same words from a line, that a name is the nearest one, and that a name in an operand is its
 // address.

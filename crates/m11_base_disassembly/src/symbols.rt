@@ -2,6 +2,9 @@
 
 ghost use Rattle.std.specs.Prelude.{◌≡◌, ◌≤◌, ◌+◌, ◌++◌, length};
 ghost use Rattle.arrayvec.specs.ArrayVec.{array_vec_len};
+ghost use Rattle.m11_base.specs.Rad50.{name_text};
+ghost use Rattle.m11_base_disassembly.specs.Names.{bare_name};
+ghost use Rattle.m11_base_disassembly.specs.Numbers.{number_text};
 ghost use Rattle.m11_base_disassembly.specs.Symbols as spec;
 
 use crate::names::{is_bare, is_written, put_bare_name};
@@ -146,6 +149,37 @@ pub(crate) fn put_address(line: &mut Source, symbols: &[Symbol], address: u16)
         Some(symbol) if stands_for(address, &symbol) => put_name_from(line, &symbol, address),
         _ => put_number(line, address),
     }
+}
+
+/// An address as an operand shows it: its nearest symbol and the distance from there, if that symbol's section is known or its value is the
+/// address; otherwise the address in octal.
+pub fn address_source(symbols: &[Symbol], address: u16) -> Source
+    ensures items { result.items ≡ spec.address_text symbols.now address }
+    ensures size { array_vec_len result ≤ 13 }
+{
+    let mut line = Source::new();
+    put_address(&mut line, symbols, address);
+    line
+}
+
+/// A word in octal, without leading zeros.
+pub fn number_source(word: u16) -> Source
+    ensures items { result.items ≡ number_text word }
+    ensures size { array_vec_len result ≤ 6 }
+{
+    let mut line = Source::new();
+    put_number(&mut line, word);
+    line
+}
+
+/// A name as it is written, up to its first space.
+pub fn name_source(name: Name) -> Source
+    ensures items { result.items ≡ bare_name (name_text name) }
+    ensures size { array_vec_len result ≤ 6 }
+{
+    let mut line = Source::new();
+    put_bare_name(&mut line, &name.characters());
+    line
 }
 
 // Whether a symbol has this name, as it is written.

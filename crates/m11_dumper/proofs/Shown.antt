@@ -5,26 +5,19 @@ use Rattle.m11_base.specs.Feed.{Text}
 use Rattle.m11_base_disassembly.specs.declared.symbols.Symbol.{Symbol}
 use Rattle.m11_base_files.specs.Opens.{Files, Holds}
 use Rattle.m11_base_writes.specs.States.{OutputState}
-use Rattle.m11_dumper.specs.Showing.{Fails, IsOfKind, ShowsAll, ShowsFile, ShowsInput}
+use Rattle.m11_dumper.specs.Showing.{Fails, IsOfKind, ShowsAll, ShowsDump, ShowsFile, ShowsInput}
 use Rattle.m11_dumper.specs.Lines.{head_line}
 use Rattle.m11_dump.specs.declared.kind.Kind.{Kind}
 use Rattle.m11_dumper.specs.declared.paths.Look.{Look}
 use Rattle.m11_dumper.specs.declared.stop.Stop.{Stop}
-use Rattle.m11_dumper.specs.declared.stop.Stop.TheVariants.{NotOpened, InFile, InObject, InMap, NoSymbols, Write, NoMemory}
+use Rattle.m11_dumper.specs.declared.stop.Stop.TheVariants.{Write}
 use Rattle.m11_dump.specs.declared.view.View.{View}
 
 -- if a file is open and was shown, the file at its path was shown
 pub file_shown : (look : Look) (symbols : List Symbol) (files : Option Files) (path : List ℕ) (kind : Kind) (text : Option Text) (faults : ℕ) (out out' : OutputState)
     (result : Result (Unit {0}) Stop) → IsOfKind look.kind files path kind → Holds files path text
-    → ShowsInput look.view symbols kind text faults path out out' result → ShowsFile look symbols files path out out' result
-file_shown look symbols files path kind text faults out out' (Ok done) k h s = (kind, (k, (text, faults, h, s)))
-file_shown look symbols files path kind text faults out out' (Err (InFile named placed)) k h s = (kind, s.0, (k, (text, faults, h, s.1)))
-file_shown look symbols files path kind text faults out out' (Err (NotOpened named)) k h s = absurd s
-file_shown look symbols files path kind text faults out out' (Err Write) k h s = (kind, k, s)
-file_shown look symbols files path kind text faults out out' (Err NoMemory) k h s = s
-file_shown look symbols files path kind text faults out out' (Err (InObject named fault)) k h s = absurd s
-file_shown look symbols files path kind text faults out out' (Err (InMap fault)) k h s = absurd s
-file_shown look symbols files path kind text faults out out' (Err (NoSymbols named fault)) k h s = absurd s
+    → ShowsInput look.form symbols kind text faults path out out' result → ShowsFile look symbols files path out out' result
+file_shown look symbols files path kind text faults out out' result k h s = inl (kind, text, faults, k, h, s)
 
 -- if a file was shown, and then others after it, as many as could be shown, all of them together were
 pub more_shown : (look : Look) (symbols : List Symbol) (files : Option Files) (path : List ℕ) (paths : List (List ℕ)) (out middle out' : OutputState) (done : Unit {0})
@@ -43,9 +36,9 @@ not_shown look symbols files path paths out out' stop h = inl h
 -- if the head of a file can't be written, showing the file stops with `Write`
 pub head_fails : (view : View) (symbols : List Symbol) (kind : Kind) (text : Option Text) (faults : ℕ) (path bytes : List ℕ) (out out' : OutputState)
     (result : Result (Unit {0}) Stop) (stopped : Stop) → IsErrAnd result (λ stop. stop ≡ stopped) → stopped ≡ Write
-    → bytes ≡ head_line kind path → Fails bytes out out' → ShowsInput view symbols kind text faults path out out' result
+    → bytes ≡ head_line kind path → Fails bytes out out' → ShowsDump view symbols kind text faults path out out' result
 head_fails view symbols kind text faults path bytes out out' (Ok done) stopped h e is fails = absurd h
 head_fails view symbols kind text faults path bytes out out' (Err stop) stopped h e is fails =
-    let P : Stop → Type 0 = λ these. ShowsInput view symbols kind text faults path out out' (Err these) in
+    let P : Stop → Type 0 = λ these. ShowsDump view symbols kind text faults path out out' (Err these) in
     let Q : List ℕ → Type 0 = λ these. Fails these out out' in
     subst P (sym (h ∙ e)) (subst Q is fails)

@@ -16,6 +16,14 @@ disassemble_rule = record (new_rule (codes "disassemble")) {
   action = Some SetTrue;
 }
 
+-- `-s`, `--source`: write every tape as a source
+abbrev pub source_rule : Rule
+source_rule = record (new_rule (codes "source")) {
+  short = Some 0o163;
+  long = Some (codes "source");
+  action = Some SetTrue;
+}
+
 -- `-o`, `--object`: read every file as an object
 abbrev pub object_rule : Rule
 object_rule = record (new_rule (codes "object")) {
@@ -44,8 +52,8 @@ load_map_rule = record (new_rule (codes "map")) {
 abbrev pub symbols_rule : Rule
 symbols_rule = record (option_rule (codes "symbols") 0o171) { action = Some Append }
 
--- `m11-dump [-d] [-o] [-t] [-m] [-b OCTAL] [-y NAMES]... FILE...`
+-- `m11-dump [-d] [-s] [-o] [-t] [-m] [-b OCTAL] [-y NAMES]... FILE...`
 abbrev pub application : App
 application =
-    with_rule (with_rule (with_rule (with_rule (with_rule (with_rule (with_rule (new_app (codes "m11-dump")) disassemble_rule) object_rule)
-    tape_rule) load_map_rule) bottom_rule) symbols_rule) files_rule
+    with_rule (with_rule (with_rule (with_rule (with_rule (with_rule (with_rule (with_rule (new_app (codes "m11-dump")) disassemble_rule)
+    source_rule) object_rule) tape_rule) load_map_rule) bottom_rule) symbols_rule) files_rule

@@ -33,7 +33,7 @@ use Rattle.m11_dumper.specs.declared.paths.Show.TheVariants.{Contents, Map}
 use Rattle.m11_dumper.specs.declared.stop.Outcome.{Outcome}
 use Rattle.m11_dumper.specs.declared.stop.Outcome.TheVariants.{Usage, Refused, Shown}
 use Rattle.m11_dumper.specs.declared.stop.Stop.{Stop}
-use Rattle.m11_dumper.specs.declared.stop.Stop.TheVariants.{NotOpened, InFile, InObject, InMap, NoSymbols, Write, NoMemory}
+use Rattle.m11_dumper.specs.declared.stop.Stop.TheVariants.{NotOpened, InFile, NotTape, InObject, InMap, NoSymbols, Write, NoMemory}
 
 -- the exit status for a fault in a file, the same as for a link or a run
 abbrev pub fault_status : DumpFault → ℕ
@@ -57,6 +57,7 @@ map_status map.NoMemory = 5
 abbrev pub stop_status : Stop → ℕ
 stop_status (NotOpened path) = 3
 stop_status (InFile path placed) = fault_status placed.fault
+stop_status (NotTape path) = 4
 stop_status (InObject path fault) = link_status fault
 stop_status (InMap fault) = link_status fault
 stop_status (NoSymbols path fault) = map_status fault
@@ -86,6 +87,7 @@ is_write_fault fault.NoMemory = false
 abbrev pub is_write : Stop → Bool
 is_write (NotOpened path) = false
 is_write (InFile path placed) = is_write_fault placed.fault
+is_write (NotTape path) = false
 is_write (InObject path fault) = false
 is_write (InMap fault) = false
 is_write (NoSymbols path fault) = false

@@ -7,6 +7,8 @@ use Rattle.m11_dump.specs.declared.kind.Kind.TheVariants.{Object, Tape}
 use Rattle.m11_dump.specs.declared.view.View.{View}
 use Rattle.m11_dump.specs.declared.view.View.TheVariants.{Octal, Instructions}
 use Rattle.m11_dumper.specs.Application.{application}
+use Rattle.m11_dumper.specs.declared.paths.Form.{Form}
+use Rattle.m11_dumper.specs.declared.paths.Form.TheVariants.{Dump, Source}
 use Rattle.m11_dumper.specs.declared.paths.Look.{Look}
 use Rattle.m11_dumper.specs.declared.paths.Request.{Request}
 use Rattle.m11_dumper.specs.declared.paths.Show.{Show}
@@ -34,10 +36,15 @@ view_by value = if is_set value then Instructions else Octal
 abbrev pub kind_by : Option Text → Option Text → Option Kind
 kind_by object tape = if is_set object then Some Object else if is_set tape then Some Tape else None
 
--- how to show the contents of files: the view of their bytes, and their kind if an option states it
+-- what the contents of files are shown as: sources if that is asked for; otherwise dumps, with their bytes in a view
+abbrev pub form_of : List Row → Form
+form_of rows =
+    if is_set (first_of (codes "source") rows) then Source else Dump (view_by (first_of (codes "disassemble") rows))
+
+-- how to show the contents of files: what they are shown as, and their kind if an option states it
 abbrev pub look_of : List Row → Look
 look_of rows = record {
-  view = view_by (first_of (codes "disassemble") rows);
+  form = form_of rows;
   kind = kind_by (first_of (codes "object") rows) (first_of (codes "tape") rows);
 }
 

@@ -14,9 +14,14 @@ use Rattle.m11_dump.specs.declared.kind.Kind.{Kind}
 use Rattle.m11_dump.specs.declared.kind.Kind.TheVariants.{Object, Library, Tape}
 use Rattle.m11_dump.specs.declared.fault.LocatedFault.{LocatedFault}
 use Rattle.m11_dumper.specs.Lines.{head_line}
+use Rattle.m11_dump_source.specs.Run.{WritesSource}
+use Rattle.m11_dump_source.specs.declared.run.SourceFault.{SourceFault}
+use Rattle.m11_dump_source.specs.declared.run.SourceFault.TheVariants as source
+use Rattle.m11_dumper.specs.declared.paths.Form.{Form}
+use Rattle.m11_dumper.specs.declared.paths.Form.TheVariants.{Dump, Source}
 use Rattle.m11_dumper.specs.declared.paths.Look.{Look}
 use Rattle.m11_dumper.specs.declared.stop.Stop.{Stop}
-use Rattle.m11_dumper.specs.declared.stop.Stop.TheVariants.{NotOpened, InFile, InObject, InMap, NoSymbols, Write, NoMemory}
+use Rattle.m11_dumper.specs.declared.stop.Stop.TheVariants.{NotOpened, InFile, NotTape, InObject, InMap, NoSymbols, Write, NoMemory}
 use Rattle.m11_base_files.specs.Opens.{Files, Holds, Lacks}
 use Rattle.m11_base_writes.specs.States.{OutputState}
 use Rattle.m11_dump.specs.declared.view.View.{View}
@@ -39,6 +44,53 @@ abbrev pub DumpsInput : View → List Symbol → Kind → Option Text → ℕ �
 DumpsInput view symbols kind text faults path out out' result = (middle : OutputState) × (new : Position) × Gains (head_line kind path) out middle
     × DumpsKind view symbols kind (position text faults most_bytes) new middle out' result
 
+-- ---- one open file
+
+-- an open file of this kind was dumped; or memory was refused before anything was written; or its head couldn't be written; or its dump
+-- stopped
+abbrev pub ShowsDump : View → List Symbol → Kind → Option Text → ℕ → Bytes → OutputState → OutputState → Result (Unit {0}) Stop → Type 0
+ShowsDump view symbols kind text faults path out out' (Ok done) = DumpsInput view symbols kind text faults path out out' (Ok done)
+ShowsDump view symbols kind text faults path out out' (Err (InFile named placed)) =
+    (named.now ≡ path) × DumpsInput view symbols kind text faults path out out' (Err placed)
+ShowsDump view symbols kind text faults path out out' (Err (NotOpened named)) = ⊥
+ShowsDump view symbols kind text faults path out out' (Err Write) = Fails (head_line kind path) out out'
+ShowsDump view symbols kind text faults path out out' (Err NoMemory) = out' ≡ out
+ShowsDump view symbols kind text faults path out out' (Err (InObject named fault)) = ⊥
+ShowsDump view symbols kind text faults path out out' (Err (InMap fault)) = ⊥
+ShowsDump view symbols kind text faults path out out' (Err (NotTape named)) = ⊥
+ShowsDump view symbols kind text faults path out out' (Err (NoSymbols named fault)) = ⊥
+
+-- the tape in this text was written as a source, with this result
+abbrev pub Sources : List Symbol → Option Text → ℕ → OutputState → OutputState → Result (Unit {0}) SourceFault → Type 0
+Sources symbols text faults out out' result =
+    (new : Position) × WritesSource symbols (position text faults most_bytes) new out out' result
+
+-- an open tape was written as a source; or it can't be read, or not all of its source was written, or memory was refused
+abbrev pub ShowsTape : List Symbol → Option Text → ℕ → Bytes → OutputState → OutputState → Result (Unit {0}) Stop → Type 0
+ShowsTape symbols text faults path out out' (Ok done) = Sources symbols text faults out out' (Ok done)
+ShowsTape symbols text faults path out out' (Err (InFile named placed)) =
+    (named.now ≡ path) × Sources symbols text faults out out' (Err (source.Tape placed))
+ShowsTape symbols text faults path out out' (Err Write) = Sources symbols text faults out out' (Err source.Write)
+ShowsTape symbols text faults path out out' (Err NoMemory) = Sources symbols text faults out out' (Err source.NoMemory)
+ShowsTape symbols text faults path out out' (Err stop) = ⊥
+
+-- there is no source of a file of another kind, and nothing was written
+abbrev pub IsNoTape : Bytes → OutputState → OutputState → Result (Unit {0}) Stop → Type 0
+IsNoTape path out out' (Err (NotTape named)) = (named.now ≡ path) × (out' ≡ out)
+IsNoTape path out out' result = ⊥
+
+-- an open file of this kind was written as a source, which only a tape has
+abbrev pub ShowsSource : List Symbol → Kind → Option Text → ℕ → Bytes → OutputState → OutputState → Result (Unit {0}) Stop → Type 0
+ShowsSource symbols Tape text faults path out out' result = ShowsTape symbols text faults path out out' result
+ShowsSource symbols kind text faults path out out' result = IsNoTape path out out' result
+
+-- an open file of this kind was shown in this form, with this result
+abbrev pub ShowsInput : Form → List Symbol → Kind → Option Text → ℕ → Bytes → OutputState → OutputState → Result (Unit {0}) Stop → Type 0
+ShowsInput (Dump view) symbols kind text faults path out out' result = ShowsDump view symbols kind text faults path out out' result
+ShowsInput Source symbols kind text faults path out out' result = ShowsSource symbols kind text faults path out out' result
+
+-- ---- files at paths
+
 -- the kind of a file: as an option states for all files, otherwise as the beginning of the file indicates
 abbrev pub IsChosenKind : Option Kind → Position → Position → Kind → Type 0
 IsChosenKind (Some said) old new kind = kind ≡ said
@@ -49,23 +101,22 @@ abbrev pub IsOfKind : Option Kind → Option Files → Bytes → Kind → Type 0
 IsOfKind said files path kind = (text : Option Text) × (faults : ℕ) × (new : Position) × Holds files path text
     × IsChosenKind said (position text faults most_bytes) new kind
 
--- the file at this path, which is of this kind, was dumped, with this result
-abbrev pub Dumps : Look → List Symbol → Kind → Option Files → Bytes → OutputState → OutputState → Result (Unit {0}) LocatedFault → Type 0
-Dumps look symbols kind files path out out' result = IsOfKind look.kind files path kind
-    × ((text : Option Text) × (faults : ℕ) × Holds files path text × DumpsInput look.view symbols kind text faults path out out' result)
+-- the file at this path is open, and it was shown with this result
+abbrev pub ShowsOpen : Look → List Symbol → Option Files → Bytes → OutputState → OutputState → Result (Unit {0}) Stop → Type 0
+ShowsOpen look symbols files path out out' result = (kind : Kind) × (text : Option Text) × (faults : ℕ) × IsOfKind look.kind files path kind
+    × Holds files path text × ShowsInput look.form symbols kind text faults path out out' result
 
--- a file was shown; or it couldn't be opened; or memory was refused before anything was written; or its head couldn't be written; or its
--- dump stopped
+-- the file at this path couldn't be opened, or memory was refused for that; nothing was written
+abbrev pub StaysClosed : Option Files → Bytes → OutputState → OutputState → Result (Unit {0}) Stop → Type 0
+StaysClosed files path out out' (Ok done) = ⊥
+StaysClosed files path out out' (Err (NotOpened named)) = (named.now ≡ path) × Lacks files path × (out' ≡ out)
+StaysClosed files path out out' (Err NoMemory) = out' ≡ out
+StaysClosed files path out out' (Err stop) = ⊥
+
+-- a file was shown, or why it wasn't
 abbrev pub ShowsFile : Look → List Symbol → Option Files → Bytes → OutputState → OutputState → Result (Unit {0}) Stop → Type 0
-ShowsFile look symbols files path out out' (Ok done) = (kind : Kind) × Dumps look symbols kind files path out out' (Ok done)
-ShowsFile look symbols files path out out' (Err (InFile named placed)) =
-    (kind : Kind) × (named.now ≡ path) × Dumps look symbols kind files path out out' (Err placed)
-ShowsFile look symbols files path out out' (Err (NotOpened named)) = (named.now ≡ path) × Lacks files path × (out' ≡ out)
-ShowsFile look symbols files path out out' (Err Write) = (kind : Kind) × IsOfKind look.kind files path kind × Fails (head_line kind path) out out'
-ShowsFile look symbols files path out out' (Err NoMemory) = out' ≡ out
-ShowsFile look symbols files path out out' (Err (InObject named fault)) = ⊥
-ShowsFile look symbols files path out out' (Err (InMap fault)) = ⊥
-ShowsFile look symbols files path out out' (Err (NoSymbols named fault)) = ⊥
+ShowsFile look symbols files path out out' result =
+    ShowsOpen look symbols files path out out' result ⊎ StaysClosed files path out out' result
 
 -- all files were shown, in order; or showing stopped at one of them, and those before it were shown
 abbrev pub ShowsAll : Look → List Symbol → Option Files → List Bytes → OutputState → OutputState → Result (Unit {0}) Stop → Type 0
@@ -80,18 +131,3 @@ ShowsAll look symbols files (path ∷ paths) out out' (Err stop) = ShowsFile loo
 abbrev pub Counts : ℕ → ℕ → Result (Unit {0}) Stop → Type 0
 Counts old new (Err (NotOpened path)) = Rises old new
 Counts old new result = new ≡ old
-
--- ---- one open file
-
--- an open file of this kind was shown; or memory was refused before anything was written; or its head couldn't be written; or its dump
--- stopped
-abbrev pub ShowsInput : View → List Symbol → Kind → Option Text → ℕ → Bytes → OutputState → OutputState → Result (Unit {0}) Stop → Type 0
-ShowsInput view symbols kind text faults path out out' (Ok done) = DumpsInput view symbols kind text faults path out out' (Ok done)
-ShowsInput view symbols kind text faults path out out' (Err (InFile named placed)) =
-    (named.now ≡ path) × DumpsInput view symbols kind text faults path out out' (Err placed)
-ShowsInput view symbols kind text faults path out out' (Err (NotOpened named)) = ⊥
-ShowsInput view symbols kind text faults path out out' (Err Write) = Fails (head_line kind path) out out'
-ShowsInput view symbols kind text faults path out out' (Err NoMemory) = out' ≡ out
-ShowsInput view symbols kind text faults path out out' (Err (InObject named fault)) = ⊥
-ShowsInput view symbols kind text faults path out out' (Err (InMap fault)) = ⊥
-ShowsInput view symbols kind text faults path out out' (Err (NoSymbols named fault)) = ⊥

@@ -2,19 +2,20 @@
 
 ghost use Rattle.std.specs.Prelude.{IfOk};
 ghost use Rattle.m11_cli_tasks.specs.Commands.{IsArgument, IsCommand, bottom_rule};
-ghost use Rattle.m11_dumper.specs.Application.{application, disassemble_rule, files_rule, load_map_rule, object_rule, symbols_rule, tape_rule};
+ghost use Rattle.m11_dumper.specs.Application.{application, disassemble_rule, files_rule, load_map_rule, object_rule, source_rule, symbols_rule, tape_rule};
 
 use clap::{Arg, ArgAction, Command};
 use m11_cli_tasks::{leaf_command, option_argument, with_argument};
 use std::alloc::{AllocError, Global};
 
-/// The command line `m11-dump [-d] [-o] [-t] [-m] [-b OCTAL] [-y NAMES]... FILE...`. Error: memory was refused.
+/// The command line `m11-dump [-d] [-s] [-o] [-t] [-m] [-b OCTAL] [-y NAMES]... FILE...`. Error: memory was refused.
 pub(crate) fn application_command<'a>(alloc: Global) -> Result<Command<'a>, AllocError>
     ensures { IfOk result (IsCommand application) }
 {
     let about = "Show what RT-11 objects and absolute loader tapes hold";
     let command = leaf_command(alloc, "m11-dump", about);
     let command = with_argument(command, disassemble_argument(alloc));
+    let command = with_argument(command, source_argument(alloc));
     let command = with_argument(command, object_argument(alloc));
     let command = with_argument(command, tape_argument(alloc));
     let command = with_argument(command, load_map_argument(alloc));
@@ -31,6 +32,17 @@ fn disassemble_argument<'a>(alloc: Global) -> Arg<'a>
         .short('d')
         .long("disassemble")
         .help("Show words as instructions, one in a line")
+        .action(ArgAction::SetTrue)
+}
+
+// `-s`: write every tape as a source.
+fn source_argument<'a>(alloc: Global) -> Arg<'a>
+    ensures { IsArgument source_rule result }
+{
+    Arg::new(alloc, "source")
+        .short('s')
+        .long("source")
+        .help("Write a tape as a source with labels, to be assembled again")
         .action(ArgAction::SetTrue)
 }
 

@@ -3,7 +3,7 @@
 ghost use Rattle.std.specs.Prelude.{◌≡◌, codes, map};
 ghost use Rattle.clap.specs.Words.{first_of, found_of, rows_of};
 ghost use Rattle.m11_cli_reports.specs.Refusals.{of_words};
-ghost use Rattle.m11_dumper.specs.Paths.{EntriesHaveResult, Plans, is_set, kind_by, look_of, show_of, view_by};
+ghost use Rattle.m11_dumper.specs.Paths.{EntriesHaveResult, Plans, form_of, is_set, kind_by, look_of, show_of, view_by};
 
 use crate::application::application_command;
 use clap::ArgMatches;
@@ -13,11 +13,20 @@ use m11_dump::{Kind, View};
 use std::alloc::Global;
 use std::convert::AsStr;
 
+/// What the contents of files are shown as.
+#[derive(Clone, Copy)]
+pub(crate) enum Form {
+    /// Dumps, with the bytes of texts and of a tape's blocks in this view.
+    Dump(View),
+    /// Sources.
+    Source,
+}
+
 /// How to show the contents of files.
 #[derive(Clone, Copy)]
 pub(crate) struct Look {
-    /// How to show the bytes of texts and of a tape's blocks.
-    pub(crate) view: View,
+    /// What they are shown as.
+    pub(crate) form: Form,
     /// The kind of file that each file is read as; if None, the beginning of the file decides.
     pub(crate) kind: Option<Kind>,
 }
@@ -78,7 +87,7 @@ fn parsed_request<'a>(alloc: Global, matches: &ArgMatches<'a>) -> Result<Request
     })
 }
 
-// What to show: the load map if `-m` is given, even with `-d`, `-o` or `-t`; otherwise the contents of each file.
+// What to show: the load map if `-m` is given, even with `-d`, `-s`, `-o` or `-t`; otherwise the contents of each file.
 fn show_option(matches: &ArgMatches<'_>) -> Show
     ensures { result ≡ show_of (rows_of (found_of matches.now)) }
 {
@@ -89,12 +98,12 @@ fn show_option(matches: &ArgMatches<'_>) -> Show
     }
 }
 
-// How to show the contents of files, as `-d`, `-o` and `-t` state.
+// How to show the contents of files, as `-d`, `-s`, `-o` and `-t` state.
 fn look_options(matches: &ArgMatches<'_>) -> Look
     ensures { result ≡ look_of (rows_of (found_of matches.now)) }
 {
     Look {
-        view: view_option(matches),
+        form: form_option(matches),
         kind: chosen_kind(matches),
     }
 }
@@ -110,6 +119,17 @@ fn chosen_kind(matches: &ArgMatches<'_>) -> Option<Kind>
         Some(Kind::Tape)
     } else {
         None
+    }
+}
+
+// What the contents of files are shown as: sources if `-s` is given, even with `-d`; otherwise dumps.
+fn form_option(matches: &ArgMatches<'_>) -> Form
+    ensures { result ≡ form_of (rows_of (found_of matches.now)) }
+{
+    if is_present(matches, "source") {
+        Form::Source
+    } else {
+        Form::Dump(view_option(matches))
     }
 }
 

@@ -2,18 +2,19 @@
 
 ghost use Rattle.std.specs.Prelude.{◌≡◌, ℕ};
 ghost use Rattle.m11_obj_blocks.specs.Limited.{most_bytes, position};
-ghost use Rattle.m11_dumper.specs.Showing.{Counts, DumpsKind, IsChosenKind, ShowsAll, ShowsFile, ShowsInput};
+ghost use Rattle.m11_dumper.specs.Showing.{Counts, DumpsKind, IsChosenKind, ShowsAll, ShowsDump, ShowsFile, ShowsInput, ShowsSource};
 ghost use Rattle.m11_cli_tasks.specs.Opened.{texts};
 ghost use Rattle.m11_base_writes.specs.States.{output_of};
 
 use crate::lines::head_line;
-use crate::paths::Look;
+use crate::paths::{Form, Look};
 use crate::stop::Stop;
 use m11_base::{Feed, Seed, Sink};
 use m11_base_disassembly::Symbol;
 use m11_base_files::{OpenRefusal, Opens};
 use m11_base_writes::put_or_fail;
 use m11_dump::{Kind, LocatedFault, View, dump_library, dump_object, dump_tape, kind_of};
+use m11_dump_source::{SourceFault, write_source};
 use std::alloc::Global;
 
 /// Shows the files at these paths, in order, up to the first that can't be shown. The globals name the addresses of tapes. Error: why a
@@ -41,7 +42,7 @@ pub(crate) fn show_all<'a, F: Opens, O: Sink>(
     }
 }
 
-// Shows the file at this path, which is opened twice: to find its kind, and to dump it. Error: why the file wasn't shown.
+// Shows the file at this path, which is opened twice: to find its kind, and to show it. Error: why the file wasn't shown.
 #[tactic(auto, using(crate::proofs::Shown::file_shown))]
 fn show_file<'a, F: Opens, O: Sink>(
     alloc: Global,
@@ -65,7 +66,7 @@ fn show_file<'a, F: Opens, O: Sink>(
                 seed,
                 &mut second,
                 kind,
-                look.view,
+                look.form,
                 symbols,
                 path,
                 out,
@@ -87,9 +88,53 @@ fn chosen_kind<I: Feed>(said: Option<Kind>, input: &mut I) -> Kind
     }
 }
 
-// Shows an open file: a line with its kind and its path, and then its dump. Errors: `NoMemory` or `Write` for the line; `InFile` with the
-// fault at which the dump stopped.
+// Shows an open file of this kind in this form. Errors: those of a dump or of a source.
 fn show_input<'a, I: Feed, O: Sink>(
+    alloc: Global,
+    seed: Seed,
+    input: &mut I,
+    kind: Kind,
+    form: Form,
+    symbols: &[Symbol],
+    path: &'a str,
+    out: &mut O,
+) -> Result<(), Stop<'a>>
+    ensures { ShowsInput form symbols.now kind (I.text input.old) (I.faults input.old) path.entry.now (output_of O.Sink out.old)
+        (output_of O.Sink out.new) result }
+{
+    match form {
+        Form::Dump(view) => show_dump(alloc, seed, input, kind, view, symbols, path, out),
+        Form::Source => show_source(alloc, input, kind, symbols, path, out),
+    }
+}
+
+// Writes an open file as a source. Errors: `NotTape`, if it is of another kind; `InFile` with the fault at which reading it stopped; `Write`;
+// `NoMemory`.
+fn show_source<'a, I: Feed, O: Sink>(
+    alloc: Global,
+    input: &mut I,
+    kind: Kind,
+    symbols: &[Symbol],
+    path: &'a str,
+    out: &mut O,
+) -> Result<(), Stop<'a>>
+    ensures { ShowsSource symbols.now kind (I.text input.old) (I.faults input.old) path.entry.now (output_of O.Sink out.old)
+        (output_of O.Sink out.new) result }
+{
+    match kind {
+        Kind::Object | Kind::Library => Err(Stop::NotTape(path)),
+        Kind::Tape => match write_source(alloc, symbols, input, out) {
+            Ok(()) => Ok(()),
+            Err(SourceFault::Tape(placed)) => Err(Stop::InFile(path, placed)),
+            Err(SourceFault::Write) => Err(Stop::Write),
+            Err(SourceFault::NoMemory) => Err(Stop::NoMemory),
+        },
+    }
+}
+
+// Dumps an open file: a line with its kind and its path, and then its dump. Errors: `NoMemory` or `Write` for the line; `InFile` with the
+// fault at which the dump stopped.
+fn show_dump<'a, I: Feed, O: Sink>(
     alloc: Global,
     seed: Seed,
     input: &mut I,
@@ -99,7 +144,7 @@ fn show_input<'a, I: Feed, O: Sink>(
     path: &'a str,
     out: &mut O,
 ) -> Result<(), Stop<'a>>
-    ensures { ShowsInput view symbols.now kind (I.text input.old) (I.faults input.old) path.entry.now (output_of O.Sink out.old)
+    ensures { ShowsDump view symbols.now kind (I.text input.old) (I.faults input.old) path.entry.now (output_of O.Sink out.old)
         (output_of O.Sink out.new) result }
 {
     let head = head_line(alloc, kind, path)?;

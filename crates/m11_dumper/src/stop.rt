@@ -19,6 +19,8 @@ pub(crate) enum Stop<'a> {
     NotOpened(&'a str),
     /// The dump of the file at this path stopped at this fault.
     InFile(&'a str, LocatedFault),
+    /// The file at this path isn't a tape, so it has no source.
+    NotTape(&'a str),
     /// The objects have no load map: a link of them is refused with this fault, which is in the object at this path.
     InObject(&'a str, LinkFault),
     /// The objects have no load map: a link is refused with this fault, which is in no single object, or memory was refused.
@@ -97,6 +99,7 @@ fn stop_status(stop: &Stop<'_>) -> u8
         Stop::NotOpened(_) | Stop::Write => 3,
         Stop::InFile(_, placed) => fault_status(placed.fault),
         Stop::InObject(_, fault) | Stop::InMap(fault) => link_status(*fault),
+        Stop::NotTape(_) => 4,
         Stop::NoSymbols(_, fault) => map_status(*fault),
         Stop::NoMemory => 5,
     }

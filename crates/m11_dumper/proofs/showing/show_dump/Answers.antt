@@ -3,7 +3,7 @@ use Rattle.std.specs.Io.KnownBytes.{Appends}
 use Rattle.m11_obj_blocks.specs.Limited.{position}
 use Rattle.m11_base_writes.specs.States.{output_of}
 use Rattle.m11_dumper.proofs.Shown.{head_fails}
-use Rattle.m11_dumper.proofs.showing.show_input.Goals as goal
+use Rattle.m11_dumper.proofs.showing.show_dump.Goals as goal
 
 pub returns-in-Ok : goal.returns-in-Ok
 returns-in-Ok g c =

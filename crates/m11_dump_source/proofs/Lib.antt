@@ -1,0 +1,4 @@
+pub mod Stored
+pub mod LinesShown
+pub mod Marked
+pub mod Sourced

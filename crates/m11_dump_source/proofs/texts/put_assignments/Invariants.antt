@@ -1,0 +1,10 @@
+use Rattle.std.proofs.Common.{◌≡◌, ◌++◌, length}
+use Rattle.std.specs.List.{flat_map}
+use Rattle.m11_dump_source.specs.Texts.{assignment}
+use Rattle.m11_dump_source.proofs.texts.put_assignments.Given as goal
+
+abbrev pub invariant-symbols : goal.invariant-symbols
+invariant-symbols l = l.text.items ++ flat_map (assignment l.lines) l.rest ≡ l.initial.text.items ++ flat_map (assignment l.lines) l.symbols
+
+abbrev pub decreases-symbols : goal.decreases-symbols
+decreases-symbols l = length l.rest
