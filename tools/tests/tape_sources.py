@@ -2,7 +2,7 @@
 tools/test.py.
 
 They run if the variables M11 and M11_DUMP name built programs. The tapes are those of the examples, with and without the names of their maps, and random
-ones with up to eight blocks, which may overlap, continue others, and begin and end anywhere."""
+ones with up to eight blocks, which may overlap, continue others, and begin and end anywhere. A random tape may look like an object, so `-t` is given."""
 import os
 import random
 import subprocess
@@ -88,7 +88,7 @@ class Room:
 
     def why_other(self, tape, names=()):
         """What is wrong with the source of a tape, shown with these names; an empty text if nothing is."""
-        status, source, said = self.call(self.dump, "-s", *names, tape)
+        status, source, said = self.call(self.dump, "-s", "-t", *names, tape)
         if status:
             return f"no source: {said}"
         self.write("AGAIN.MAC", source)
@@ -100,7 +100,7 @@ class Room:
             return f"the object isn't linked: {said}"
         if loaded(self.read("AGAIN.TAP")) != loaded(self.read(tape)):
             return "the memory is another"
-        status, again, said = self.call(self.dump, "-s", *names, "AGAIN.TAP")
+        status, again, said = self.call(self.dump, "-s", "-t", *names, "AGAIN.TAP")
         return "" if (status, again) == (0, source) else f"the source of the second tape is another: {said}"
 
 
