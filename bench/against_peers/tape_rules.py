@@ -1,8 +1,9 @@
 """The rules by which a step of m11's machine and one of SIMH's 11/40 differ.
 
 Each looks at the first step that differs: at the state before it, which both have, and at both states after it. Where it can, it computes the state
-that SIMH must have, and SIMH is asked again whether it has exactly that one."""
-from dataclasses import replace
+that SIMH must have, and SIMH is asked again whether it has exactly that one. If it hasn't, the traps that are computed are taken back in SIMH's state,
+and another rule has to explain what is left."""
+from dataclasses import dataclass, replace
 
 PROCESSOR, COMING = "docs/PROCESSOR.md", "docs/COMING.md"
 SP, PC, PSW = 6, 7, 8
@@ -205,8 +206,9 @@ def trace_of_a_wait(before, mine, code):
 
 
 def stack_limit(before, mine, code):
-    """There a push below 400 leads to a trap through 4 after the instruction."""
-    return (mine, 4) if mine.registers[SP] < STACK_LIMIT else None
+    """There a push below 400 leads to a trap through 4 after the instruction. JSR SP pushes, and then SP is elsewhere."""
+    is_call = code >> 9 == 4 and (before.registers[SP] - 2) & 0xFFFF < STACK_LIMIT
+    return (mine, 4) if is_call or mine.registers[SP] < STACK_LIMIT else None
 
 
 def jump_to_a_register(before, mine, code):
@@ -235,21 +237,72 @@ SEEN = {"register-first": (register_first, PROCESSOR + "#operands"), "codes-of-a
         "vector-under-the-stack": (vector_under_the_stack, PROCESSOR + "#stack-jumps-and-traps"),
         "same-place": (same_place, PROCESSOR + "#stack-jumps-and-traps"), "stack-fault": (stack_fault, PROCESSOR + "#stack-jumps-and-traps"),
         "stack-of-another-mode": (stack_of_another_mode, PROCESSOR + "#memory-and-registers")}
+# Those of SEEN that say exactly what may differ, and can do so with traps of COMPUTED after the instruction.
+UNDER_TRAPS = ("codes-of-a-failed-store", "register-first", "stack-pointer-of-a-call")
 # Each finds a state, and the vector by which SIMH traps from it.
 COMPUTED = {"trace-of-a-return": (trace_of_a_return, PROCESSOR + "#stack-jumps-and-traps"), "stack-limit": (stack_limit, PROCESSOR),
             "trace-of-a-wait": (trace_of_a_wait, PROCESSOR + "#stack-jumps-and-traps"),
             "jump-to-a-register": (jump_to_a_register, PROCESSOR + "#stack-jumps-and-traps")}
 
 
+@dataclass(frozen=True)
+class Computed:
+    """A state that SIMH may have by COMPUTED: the names of the rules, the state, and the traps by which it comes from one of an instruction alone."""
+    names: list
+    state: object
+    begun: object
+    vectors: tuple
+
+
 def computed(before, mine, code):
-    """The states that SIMH may have by COMPUTED, each with the names of its rules. A trap may push below the stack limit, and then another one follows."""
+    """The states that SIMH may have by COMPUTED. A trap may push below the stack limit, and then another one follows."""
     for name, (rule, _) in COMPUTED.items():
         try:
             found = rule(before, mine, code)
-            state = found and trapped(*found)
-            if state:
-                yield [name], state
-            if state and name != "stack-limit" and state.registers[SP] < STACK_LIMIT:
-                yield [name, "stack-limit"], trapped(state, 4)
+            if not found:
+                continue
+            state = trapped(*found)
+            yield Computed([name], state, found[0], found[1:])
+            if name != "stack-limit" and state.registers[SP] < STACK_LIMIT:
+                yield Computed([name, "stack-limit"], trapped(state, 4), found[0], (found[1], 4))
         except Failed:
             continue
+
+
+def untrapped(state, vector, memory):
+    """The state before a trap, whose pushes were over these words of memory. Failed, if a state isn't one after such a trap."""
+    registers, place = list(state.registers), state.registers[SP]
+    registers[PC], registers[PSW] = word_of(state, place), word_of(state, place + 2)
+    registers[SP] = (place + 4) & 0xFFFF
+    words = list(state.memory)
+    for at in (place // 2, place // 2 + 1):
+        words[at] = memory[at]
+    found = replace(state, registers=tuple(registers), memory=tuple(words))
+    again = trapped(found, vector)
+    if (again.registers, again.memory) != (state.registers, state.memory):
+        raise Failed(place)
+    return found
+
+
+def seen(before, mine, other, code, names=tuple(SEEN)):
+    """The rule of SEEN, of those with some names, that explains two states after a step; or nothing."""
+    return next((name for name in names if is_seen(SEEN[name][0], before, mine, other, code)), None)
+
+
+def is_seen(rule, before, mine, other, code):
+    """Whether a rule explains the states after a step."""
+    try:
+        return bool(rule(before, mine, other, code))
+    except Failed:
+        return False
+
+
+def seen_under(each, before, other, code):
+    """The rule of UNDER_TRAPS that explains what SIMH's state has otherwise than a computed one, once the computed traps are taken back in it; or nothing.
+    It has to be a state after exactly these traps."""
+    try:
+        for vector in reversed(each.vectors):
+            other = untrapped(other, vector, each.begun.memory)
+    except Failed:
+        return None
+    return seen(before, each.begun, other, code, UNDER_TRAPS)

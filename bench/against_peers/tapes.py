@@ -4,7 +4,7 @@ from against_peers.machines import Part
 from against_peers.programs import program_of
 from against_peers.results import AGREES, Result
 from against_peers.search import first_difference, is_same
-from against_peers.tape_rules import SEEN, Failed, computed, word_of
+from against_peers.tape_rules import Failed, computed, seen, seen_under, word_of
 
 NAME = "tapes"
 # How many steps of a program may differ. What follows the last of them isn't compared.
@@ -56,21 +56,25 @@ def explained(programs, part, last, room):
         code = word_of(before, before.registers[7])
     except Failed:
         code = 0
-    for names, wanted in computed(before, mine, code):
-        if is_same(wanted, machines.theirs(programs, [(part, wanted)], room)[0]):
-            return names, mine, ""
-    for name, (rule, _) in SEEN.items():
-        if is_seen(rule, before, mine, other, code):
-            return [name], mine, ""
-    return [], None, text_of(step, code, before, mine, other)
+    states = [(each, machines.theirs(programs, [(part, each.state)], room)[0]) for each in computed(before, mine, code)]
+    names = names_of(before, mine, other, code, states)
+    return (names, mine, "") if names else ([], None, text_of(step, code, before, mine, other))
 
 
-def is_seen(rule, before, mine, other, code):
-    """Whether a rule explains the states after a step."""
-    try:
-        return bool(rule(before, mine, other, code))
-    except Failed:
-        return False
+def names_of(before, mine, other, code, states):
+    """The rules that explain a step, none if there are none: those of a computed state that SIMH has, one that explains SIMH's state as it is, or one that
+    explains it under the traps of a computed state. Each of the computed ones has the state that SIMH has where that one would be."""
+    for each, found in states:
+        if is_same(each.state, found):
+            return each.names
+    name = seen(before, mine, other, code)
+    if name:
+        return [name]
+    for each, found in states:
+        name = found and found.is_there and seen_under(each, before, found, code)
+        if name:
+            return [name, *each.names]
+    return []
 
 
 def text_of(step, code, before, mine, other):

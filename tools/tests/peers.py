@@ -7,6 +7,7 @@ import os
 import re
 import sys
 import tempfile
+from dataclasses import replace
 from pathlib import Path
 
 TOP = os.path.dirname(os.path.dirname(os.path.dirname(os.path.realpath(__file__))))
@@ -14,11 +15,14 @@ sys.path.append(os.path.join(TOP, "bench"))
 
 from against_peers import cases, sources  # noqa: E402
 from against_peers.kinds import KINDS  # noqa: E402
+from against_peers.machines import State  # noqa: E402
 from against_peers.main import main  # noqa: E402
 from against_peers.objects import module_of  # noqa: E402
 from against_peers.placing import Placed  # noqa: E402
 from against_peers.running import Programs  # noqa: E402
 from against_peers.source_rules import ALL_LINE_RULES, MISTAKES  # noqa: E402
+from against_peers.tape_rules import computed  # noqa: E402
+from against_peers.tapes import names_of  # noqa: E402
 
 PEERS = os.environ.get("M11_PEERS") or os.path.join(os.path.dirname(TOP), "peers")
 # How many cases of each kind are compared, and from which one on: instructions have blocks of random words behind those of operators.
@@ -42,9 +46,10 @@ def anchors(page):
 
 
 def check_rules():
-    """Each rule has a case and a place on a page, and each case has a rule."""
+    """Each rule has a case and a place on a page, and each case has a rule, or several that its name joins by `+`."""
     pages, files = cases.pages(), cases.paths()
-    found = [f"{name}: a rule without a case, or a case without a rule" for name in sorted(set(pages) ^ set(files))]
+    alone, joined = {name for name in files if "+" not in name}, {name for file in files for name in file.split("+")}
+    found = [f"{name}: a rule without a case, or a case without a rule" for name in sorted((set(pages) ^ alone) | joined - set(pages))]
     for name, place in sorted(pages.items()):
         page, _, anchor = place.partition("#")
         if anchor and anchor not in anchors(page):
@@ -63,14 +68,37 @@ def check_placing():
     return [] if got == wanted else [f"placed {got}, should be {wanted}"]
 
 
+def check_together():
+    """Two rules of steps together explain what neither does alone: the codes of CLR @#1001, which fails, in the status that its trap pushes, and a trap at
+    the stack limit after it. Any other difference besides is unexplained."""
+    def state(place, **words):
+        registers, memory = (0, 0, 0, 0, 0, 0, place, 0o500, 0), [0] * 4096
+        for address, word in ({"4": 0o500, "1004": 0o5037, "1006": 0o1001} | words).items():
+            memory[int(address, 8) // 2] = word
+        return State("Step expired", 2, registers, tuple(memory))
+
+    pushed, limit = {"376": 0o1010}, {"372": 0o500}
+    before = replace(state(0o402), registers=(0, 0, 0, 0, 0, 0, 0o402, 0o1004, 0))
+    mine, theirs = state(0o376, **pushed), {"400": 4, **pushed, **limit}
+    right = state(0o372, **theirs)
+    wrong = [state(0o372, **theirs, **{"2000": 1}), replace(right, registers=(1, *right.registers[1:])), state(0o372, **theirs | {"400": 0o24}),
+             state(0o372, **theirs | {"376": 0o1012}), state(0o372, **theirs | {"372": 0o502}), state(0o370, **theirs), state(0o376, **theirs),
+             replace(right, is_there=False), None]
+    found = []
+    for other, wanted in [(right, ["codes-of-a-failed-store", "stack-limit"]), *((each, []) for each in wrong)]:
+        names = names_of(before, mine, other or right, 0o5037, [(each, other) for each in computed(before, mine, 0o5037)])
+        found += [] if names == wanted else [f"{names}, should be {wanted}: {other and other.registers}"]
+    return found
+
+
 def check_cases():
-    """Each case differs by its rule and nothing else, and so do all lines of the rules; lines that both flag don't differ."""
+    """Each case differs by its rules and nothing else, and so do all lines of the rules; lines that both flag don't differ."""
     found, all_programs = [], programs()
     with tempfile.TemporaryDirectory() as folder:
         room = Path(folder)
         for name, path in cases.paths().items():
             result = cases.result(all_programs, path, room)
-            if result is not None and (result.rules != [name] or result.unexplained):
+            if result is not None and (result.rules != name.split("+") or result.unexplained):
                 found.append(f"{name}: {result}")
         if not sources.missing(all_programs):
             rows = [(each.lines, [each.name]) for each in ALL_LINE_RULES] + [(lines, []) for lines in MISTAKES]
@@ -89,6 +117,6 @@ def check_random(kind):
     return [said.getvalue()] if status else []
 
 
-CHECKS = [("peers-rules", check_rules, ()), ("peers-placing", check_placing, ())]
+CHECKS = [("peers-rules", check_rules, ()), ("peers-placing", check_placing, ()), ("peers-together", check_together, ())]
 if os.path.isdir(PEERS):
     CHECKS += [("peers-cases", check_cases, ())] + [(f"peers-{kind}", check_random, (kind,)) for kind in KINDS]
