@@ -7,6 +7,7 @@ from dataclasses import dataclass, replace
 
 PROCESSOR, COMING = "docs/PROCESSOR.md", "docs/COMING.md"
 SP, PC, PSW = 6, 7, 8
+STATUS_PLACE = 0o177776
 TRACE, HIGH_BITS, MODES, CODES = 0o20, 0o170000, 0o140000, 0o17
 STACK_LIMIT = 0o400
 WAIT, RTI, RTT = 1, 2, 6
@@ -26,6 +27,15 @@ def word_of(state, address):
     if address & 1 or address // 2 >= len(state.memory):
         raise Failed(address)
     return state.memory[address // 2]
+
+
+def code_of(state):
+    """The instruction that comes next: a word of memory, or the processor status; 0 if it is elsewhere."""
+    place = state.registers[PC]
+    try:
+        return state.registers[PSW] if place == STATUS_PLACE else word_of(state, place)
+    except Failed:
+        return 0
 
 
 def trapped(state, vector):
@@ -98,7 +108,7 @@ def addresses_of(state, code):
 
 def is_of_status(state, code):
     """Whether an address of an instruction is that of the processor status or of its high byte."""
-    return any(address & ~1 == 0o177776 for address in addresses_of(state, code))
+    return any(address & ~1 == STATUS_PLACE for address in addresses_of(state, code))
 
 
 def changes(mine, other):

@@ -4,7 +4,7 @@ from against_peers.machines import Part
 from against_peers.programs import program_of
 from against_peers.results import AGREES, Result
 from against_peers.search import first_difference, is_same
-from against_peers.tape_rules import Failed, computed, seen, seen_under, word_of
+from against_peers.tape_rules import code_of, computed, seen, seen_under
 
 NAME = "tapes"
 # How many steps of a program may differ. What follows the last of them isn't compared.
@@ -52,10 +52,7 @@ def explained(programs, part, last, room):
     if found is None:
         return [], None, "the states of single steps don't differ"
     step, (before, _), (mine, other) = found
-    try:
-        code = word_of(before, before.registers[7])
-    except Failed:
-        code = 0
+    code = code_of(before)
     states = [(each, machines.theirs(programs, [(part, each.state)], room)[0]) for each in computed(before, mine, code)]
     names = names_of(before, mine, other, code, states)
     return (names, mine, "") if names else ([], None, text_of(step, code, before, mine, other))
