@@ -189,6 +189,12 @@ def check_monitor_scripts(room):
         room.expect(f"pack of {name}", (status, out, said.startswith(f"pack: {sentence}")), (1, b"", True))
     wanted = b"".join(packed(name.split("/")[-1], name.encode()) for name in ("IN.DAT", "-", "--help", "folder/B"))
     room.expect("names", called("pack", "IN.DAT", "-", "--help", "folder/B"), (0, wanted, ""))
+    numbers = range(3000)
+    printed = b"".join(b"%d," % number + packed(f"F{number}", b"%d" % number) for number in numbers) + b"end"
+    room.expect("many files", called("unpack", "MANY", given=printed), (0, b"".join(b"%d," % number for number in numbers) + b"end", ""))
+    for number in numbers:
+        with open(os.path.join(room.folder, "MANY", f"F{number}"), encoding="ascii") as file:
+            room.expect(f"file {number} of many", file.read(), str(number))
     with open("/dev/full", "wb") as full:
         room.expect("a full device", called("unpack", given=b"b", out=full), (1, None, "unpack: standard output: No space left on device\n"))
         room.expect("a full device, and pack", called("pack", "IN.DAT", out=full)[0] != 0, True)
