@@ -15,18 +15,20 @@ sys.path.append(os.path.join(TOP, "bench"))
 
 from against_peers import cases, sources  # noqa: E402
 from against_peers.kinds import KINDS  # noqa: E402
-from against_peers.machines import State  # noqa: E402
+from against_peers.machines import WORDS, State  # noqa: E402
 from against_peers.main import main  # noqa: E402
 from against_peers.objects import module_of  # noqa: E402
 from against_peers.placing import Placed  # noqa: E402
-from against_peers.running import Programs  # noqa: E402
+from against_peers.running import Programs, run  # noqa: E402
 from against_peers.source_rules import ALL_LINE_RULES, MISTAKES  # noqa: E402
 from against_peers.tape_rules import computed  # noqa: E402
 from against_peers.tapes import names_of  # noqa: E402
+from against_peers.torture.comparing import SUCCESS  # noqa: E402
+from against_peers.torture.kept import kept  # noqa: E402
 
 PEERS = os.environ.get("M11_PEERS") or os.path.join(os.path.dirname(TOP), "peers")
 # How many cases of each kind are compared, and from which one on: instructions have blocks of random words behind those of operators.
-COUNTS = {"sources": 150, "instructions": 60, "tapes": 40, "console": 20, "links": 20, "libraries": 30}
+COUNTS = {"sources": 150, "instructions": 60, "tapes": 40, "console": 20, "torture": 10, "links": 20, "libraries": 30}
 
 
 def programs():
@@ -91,6 +93,19 @@ def check_together():
     return found
 
 
+def check_torture():
+    """Each kept test of GCC ends with success after the steps of its table, and prints so."""
+    found, m11 = [], programs().m11
+    with tempfile.TemporaryDirectory() as folder:
+        path = Path(folder) / "P.TAP"
+        for test, tape in kept():
+            path.write_bytes(tape)
+            status, printed, said = run([m11, "sim", "-k", str(WORDS), path])
+            if (status, printed, said.partition("\n")[0]) != (0, SUCCESS.decode(), f"HALT AFTER {test.steps} STEPS"):
+                found.append(f"{test.name} {test.option}: status {status}, printed {printed!r}, {said}")
+    return found
+
+
 def check_cases():
     """Each case differs by its rules and nothing else, and so do all lines of the rules; lines that both flag don't differ."""
     found, all_programs = [], programs()
@@ -117,6 +132,7 @@ def check_random(kind):
     return [said.getvalue()] if status else []
 
 
-CHECKS = [("peers-rules", check_rules, ()), ("peers-placing", check_placing, ()), ("peers-together", check_together, ())]
+CHECKS = [("peers-rules", check_rules, ()), ("peers-placing", check_placing, ()), ("peers-together", check_together, ()),
+          ("torture", check_torture, ())]
 if os.path.isdir(PEERS):
     CHECKS += [("peers-cases", check_cases, ())] + [(f"peers-{kind}", check_random, (kind,)) for kind in KINDS]
