@@ -11,7 +11,7 @@ use Rattle.m11_asm.specs.First.{Symbols}
 use Rattle.m11_scan.specs.Line.{SourceLine}
 use Rattle.m11_asm_passes.specs.Lines.{NumberedLine}
 use Rattle.m11_asm_passes.specs.States.{PassState, PassAfter}
-use Rattle.m11_asm_pass_laws.proofs.Counting.{at_most}
+use Rattle.m11_asm_passes.proofs.LinesCounted.{at_most}
 use Rattle.m11_asm_rules.specs.Meanings.{Map, map_of}
 use Rattle.m11_asm_rules.specs.Tables.{Table, location}
 use Rattle.m11_asm_lines.specs.UsedSymbols.{UsedNames}

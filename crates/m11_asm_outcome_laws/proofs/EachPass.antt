@@ -7,8 +7,8 @@ use Rattle.m11_asm_faults.specs.Faults.{of_lines}
 use Rattle.m11_asm_faults.specs.declared.fault.AsmFault.{AsmFault}
 use Rattle.m11_scan.specs.Line.{SourceLine}
 use Rattle.m11_scan.specs.declared.fault.LineFault.{LineFault}
-use Rattle.m11_asm_pass_laws.specs.Ends.{EndsAfter, HasEnd, IsOver}
-use Rattle.m11_asm_pass_laws.specs.Ends as ends
+use Rattle.m11_asm_passes.specs.Ends.{EndsAfter, HasEnd, IsOver}
+use Rattle.m11_asm_passes.specs.Ends as ends
 use Rattle.m11_asm_passes.specs.Lines.{NumberedLine, PassLines, givens}
 use Rattle.m11_asm_rules.specs.Meanings.{Map, empty_map}
 use Rattle.m11_scan_line_laws.specs.Readings.{Reading}

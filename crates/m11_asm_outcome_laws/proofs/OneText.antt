@@ -4,8 +4,8 @@ use Rattle.m11_asm.specs.Outcome as outcome
 use Rattle.m11_asm.specs.Outcome.{Ends, HasOutcome, Outcome, Refuses}
 use Rattle.m11_asm_faults.specs.declared.fault.AsmFault.{AsmFault}
 use Rattle.m11_scan.specs.Line.{SourceLine}
-use Rattle.m11_asm_pass_laws.specs.Ends.{EndsAfter, ExceedsAfter}
-use Rattle.m11_asm_pass_laws.specs.Second.{map_from, moved_after}
+use Rattle.m11_asm_passes.specs.Ends.{EndsAfter, ExceedsAfter}
+use Rattle.m11_asm_passes.specs.Second.{map_from, moved_after}
 use Rattle.m11_asm_passes.specs.Lines.{NumberedLine, PassLines, givens}
 use Rattle.m11_asm_rules.specs.Meanings.{Map, empty_map}
 use Rattle.m11_scan_line_laws.specs.Readings.{Reading}

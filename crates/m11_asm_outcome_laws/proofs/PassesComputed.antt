@@ -8,7 +8,7 @@ use Rattle.m11_asm_faults.specs.declared.fault.AsmFault.{AsmFault}
 use Rattle.m11_asm_lines.specs.declared.counting.Counting.{Counting}
 use Rattle.m11_asm_outcome_laws.proofs.OnePass.{EndsOnce, EndsOrExceeds, ExceedsOnce, not_both, one_end, one_refusal}
 use Rattle.m11_asm_outcome_laws.specs.PassesOver.{all_read, PassComesTo, ended_after, limited, line_placed, line_read, moved, PassOver, pass_over, passed, Place, place}
-use Rattle.m11_asm_pass_laws.proofs.Falling.{acts_falling, giving_falls, none_left, passing_falls, work_left}
+use Rattle.m11_asm_passes.proofs.Falling.{acts_falling, giving_falls, none_left, passing_falls, work_left}
 use Rattle.m11_asm_passes.specs.Lines.{NumberedLine, PassLines, acted, counting_at, numbered, table_at, with_line}
 use Rattle.m11_asm_passes.specs.Lines as lines
 use Rattle.m11_asm_passes.specs.Reaching as reaching

@@ -15,8 +15,8 @@ use Rattle.m11_base_writes.specs.Outputs.{AreFlushed, Outputs, Write}
 use Rattle.m11_base.specs.Devices.{Bytes}
 use Rattle.m11_base.specs.Feed.{Text}
 use Rattle.m11_scan.specs.Line.{SourceLine}
-use Rattle.m11_asm_pass_laws.specs.Beginnings.{BeginWith}
-use Rattle.m11_asm_pass_laws.specs.Ends.{EndsAfter}
+use Rattle.m11_asm_passes.specs.Beginnings.{BeginWith}
+use Rattle.m11_asm_passes.specs.Ends.{EndsAfter}
 use Rattle.m11_asm_passes.specs.Lines.{NumberedLine, PassLines, givens}
 use Rattle.m11_asm_rules.specs.Meanings.{Map, empty_map}
 use Rattle.m11_scan_line_laws.specs.Readings.{Reading, reading_of}

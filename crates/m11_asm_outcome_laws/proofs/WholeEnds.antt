@@ -27,10 +27,10 @@ use Rattle.m11_unfold_rules.specs.Unfolding.{UnfoldedLine, Leads}
 use Rattle.m11_unfold_rules.specs.Unfolding as steps
 use Rattle.m11_unfold_rules.specs.declared.fault.UnfoldFault.{UnfoldFault}
 use Rattle.m11_unfold_rules.proofs.Cases.{fault_from, live_or_skipped, move_from}
-use Rattle.m11_asm_pass_laws.proofs.EachEnds.{has_end}
+use Rattle.m11_asm_passes.proofs.EachEnds.{has_end}
 use Rattle.m11_asm_outcome_laws.proofs.WholeSources.{all_lines, kept_at, know_more, known_by, so_far, tells}
-use Rattle.m11_asm_pass_laws.specs.Ends.{EndsAfter, ExceedsAfter, HasEnd}
-use Rattle.m11_asm_pass_laws.specs.Ends as ends
+use Rattle.m11_asm_passes.specs.Ends.{EndsAfter, ExceedsAfter, HasEnd}
+use Rattle.m11_asm_passes.specs.Ends as ends
 use Rattle.m11_asm_outcome_laws.specs.AllLines.{AreAllLines, EndsWith, AreWithinLimits}
 use Rattle.m11_asm_lines.specs.declared.counting.Counting.{Counting}
 

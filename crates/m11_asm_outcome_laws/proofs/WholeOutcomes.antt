@@ -10,7 +10,7 @@ use Rattle.m11_asm_outcome_laws.specs.AllLines.{AreAllLines, AreWithinLimits}
 use Rattle.m11_asm_outcome_laws.specs.FirstFaults.{AreAllRead, IsRefusedAfter}
 use Rattle.m11_asm_outcome_laws.specs.Numbers.{HaveNumbers}
 use Rattle.m11_asm_outcome_laws.specs.WholeSources.{IsOfWholeSources, IsProgramOf}
-use Rattle.m11_asm_pass_laws.specs.Ends.{EndsAfter}
+use Rattle.m11_asm_passes.specs.Ends.{EndsAfter}
 use Rattle.m11_asm_passes.specs.Lines.{NumberedLine, PassLines, givens}
 use Rattle.m11_asm_passes.specs.Reaching as reaching
 use Rattle.m11_asm_passes.specs.Reaching.{Exceeds}

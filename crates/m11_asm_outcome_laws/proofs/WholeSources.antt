@@ -29,8 +29,8 @@ use Rattle.m11_unfold_rules.specs.Taking.{Gives, Live, NothingLeft, move}
 use Rattle.m11_unfold_rules.specs.Unfolding.{UnfoldedLine, Leads}
 use Rattle.m11_unfold_rules.specs.Unfolding as steps
 use Rattle.m11_unfold_rules.specs.declared.fault.UnfoldFault.{UnfoldFault}
-use Rattle.m11_asm_pass_laws.proofs.Stepping.{ended_rests, none_rests}
-use Rattle.m11_asm_pass_laws.specs.Ends.{EndsAfter, IsOver}
+use Rattle.m11_asm_passes.proofs.Stepping.{ended_rests, none_rests}
+use Rattle.m11_asm_passes.specs.Ends.{EndsAfter, IsOver}
 use Rattle.m11_asm_outcome_laws.specs.AllLines.{AreAllLines, AreWithinLimits}
 use Rattle.m11_asm_lines.specs.declared.counting.Counting.{Counting}
 

@@ -2,7 +2,7 @@
 -- "Conditional assembly directives".)
 use Rattle.std.specs.Prelude.{◌≡◌, List, [], ◌∷◌, None, ⊤}
 use Rattle.m11_scan.specs.Line.{SourceLine}
-use Rattle.m11_asm_pass_laws.specs.Ends.{EndsAfter}
+use Rattle.m11_asm_passes.specs.Ends.{EndsAfter}
 use Rattle.m11_asm_passes.specs.Lines.{NumberedLine, givens}
 use Rattle.m11_asm_passes.specs.Refusals.{labels_fault, placing_fault}
 use Rattle.m11_asm_rules.specs.Lines.{after_line}

@@ -2,7 +2,7 @@
 -- alone decides the outcome is this project's own choice.)
 use Rattle.std.specs.Prelude.{◌≡◌, List, [], ◌∷◌, ◌++◌}
 use Rattle.m11_asm.specs.Outcome.{Assembled, Ends, Outcome, Refused, Refuses}
-use Rattle.m11_asm_pass_laws.specs.Second.{moved_after}
+use Rattle.m11_asm_passes.specs.Second.{moved_after}
 use Rattle.m11_asm_passes.specs.Lines.{NumberedLine, givens}
 use Rattle.m11_asm_rules.specs.Meanings.{empty_map}
 use Rattle.m11_scan_line_laws.specs.Readings.{Reading}

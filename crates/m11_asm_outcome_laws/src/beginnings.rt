@@ -12,7 +12,7 @@ ghost use Rattle.m11_asm_outcome_laws.specs.Beginnings.{IsDecided};
 ghost use Rattle.m11_asm_outcome_laws.specs.Live.{ComesTo};
 ghost use Rattle.m11_asm_outcome_laws.specs.Sources.{AssembleTo};
 
-use m11_asm_pass_laws::{
+use m11_asm_passes::{
     a_pass_has_one_end, a_second_pass_over_the_same_lines_passes_no_limit,
     the_same_lines_are_read_alike,
 };

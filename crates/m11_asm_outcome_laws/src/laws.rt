@@ -21,7 +21,7 @@ ghost use Rattle.m11_asm.specs.Written.{EndOfSource, flagged_count, program_writ
 ghost use Rattle.m11_asm_lines.specs.declared.counting.Counting.TheVariants.{Definitions};
 ghost use Rattle.m11_asm_lines.specs.Counting.{none_used};
 
-use m11_asm_pass_laws::{
+use m11_asm_passes::{
     a_pass_has_one_end, a_second_pass_over_the_same_lines_passes_no_limit,
     each_pass_reaches_its_end_or_passes_a_limit,
     no_label_has_moved_in_a_second_pass_over_the_same_lines, the_same_lines_are_read_alike,

@@ -9,7 +9,7 @@ ghost use Rattle.m11_asm_passes.specs.Lines.{NumberedLine};
 ghost use Rattle.m11_asm_rules.specs.Meanings.{Map};
 ghost use Rattle.m11_scan_line_laws.specs.Readings.{Reading};
 
-use m11_asm_pass_laws::a_pass_has_one_end;
+use m11_asm_passes::a_pass_has_one_end;
 
 /// A pass over any reading comes to what `pass_over` computes, and to nothing else: it has these live lines, and after them this end, or this
 /// fault refuses it.

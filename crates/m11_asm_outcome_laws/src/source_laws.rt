@@ -6,7 +6,7 @@ ghost use Rattle.m11_asm.specs.Outcome.{Refuses};
 ghost use Rattle.m11_asm_faults.specs.declared.fault.AsmFault.{AsmFault};
 ghost use Rattle.m11_scan.specs.Line.{SourceLine};
 ghost use Rattle.m11_scan_line_laws.specs.Readings.{Reading};
-ghost use Rattle.m11_asm_pass_laws.specs.Ends.{EndsAfter};
+ghost use Rattle.m11_asm_passes.specs.Ends.{EndsAfter};
 ghost use Rattle.m11_asm_outcome_laws.specs.AllLines.{AreAllLines, EndsWith, AreWithinLimits};
 ghost use Rattle.m11_asm_outcome_laws.specs.FirstFaults.{IsRefusedAfter};
 ghost use Rattle.m11_asm_outcome_laws.specs.Numbers.{HaveNumbers};

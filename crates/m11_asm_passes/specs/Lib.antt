@@ -1,11 +1,15 @@
+pub mod Beginnings
 pub mod Begun
 pub mod Blank
+pub mod Ends
 pub mod Faults
 pub mod Labelled
-pub mod Operated
 pub mod Lines
+pub mod Maps
+pub mod Operated
 pub mod Placed
 pub mod Reaching
 pub mod Refusals
+pub mod Second
 pub mod States
 pub mod Turns

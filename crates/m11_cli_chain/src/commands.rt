@@ -22,7 +22,7 @@ ghost use Rattle.m11_cli_chain.specs.Commands.{LeavesObject, LeavesTape, RunsCha
 ghost use Rattle.m11_cli_chain.specs.Stores.{AreAt, IsFresh, IsNoneOf, bytes_at};
 
 use m11_asm_outcome_laws::the_object_is_the_blocks_of_its_contents;
-use m11_asm_pass_laws::{
+use m11_asm_passes::{
     a_second_pass_over_the_same_lines_passes_no_limit, the_same_lines_are_read_alike,
 };
 use m11_cli_image::{

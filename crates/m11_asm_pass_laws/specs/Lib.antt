@@ -1,4 +1,0 @@
-pub mod Beginnings
-pub mod Ends
-pub mod Maps
-pub mod Second
