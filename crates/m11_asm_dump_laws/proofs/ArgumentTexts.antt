@@ -1,41 +1,27 @@
 -- The texts of operands: their parts, and that they have no character that begins no token.
-use Rattle.std.proofs.Common.{◌≡◌, ◌∙◌, ℕ, ◌+◌, true, [], ◌∷◌, ◌++◌, length, refl, sym, ap, arith, append_assoc, codes}
+use Rattle.std.proofs.Common.{◌≡◌, ◌∙◌, ℕ, ◌+◌, List, [], ◌∷◌, ◌++◌, length, refl, sym, ap, arith, append_assoc, codes}
+use Rattle.std.specs.List.{AllByRecursion}
 use Rattle.std.proofs.Math.Seq.{drop-append_seam}
 use Rattle.std.proofs.lemmas.List.{length-append}
 use Rattle.m11_base.specs.Devices.{Bytes}
 use Rattle.m11_base.specs.declared.operand.Register.{Register}
-use Rattle.m11_base.specs.declared.operand.Register.TheVariants.{R0, R1, R2, R3, R4, R5, Sp, Pc}
 use Rattle.m11_base_disassembly.specs.Arguments.{Argument}
 use Rattle.m11_base_disassembly.specs.Arguments as argument
 use Rattle.m11_base_disassembly.specs.Numbers.{number_text}
 use Rattle.m11_base_disassembly.specs.Texts.{between, index_text, register_text}
-use Rattle.m11_asm_dump_laws.specs.Unnamed.{argument_text}
+use Rattle.m11_base_disassembly.specs.Symbols.{address_text}
+use Rattle.m11_base_disassembly.specs.declared.symbols.Symbol.{Symbol}
+use Rattle.m11_asm_dump_laws.specs.Knowledge.{IsSpelled}
+use Rattle.m11_asm_dump_laws.specs.Texts.{argument_text}
 use Rattle.m11_scan.proofs.NextPieces.{skipped_first}
 use Rattle.m11_scan.specs.Pieces.{first_piece, token}
 use Rattle.m11_scan.specs.Skipped.{has_skipped}
 use Rattle.m11_scan.specs.declared.sort.Form.TheVariants.{Blank}
 use Rattle.m11_scan.specs.declared.sort.Sort.{Sort}
 use Rattle.m11_scan.specs.declared.sort.Sort.TheVariants as sorts
-use Rattle.m11_asm_dump_laws.proofs.Digits.{text_digits, text_some}
-use Rattle.m11_asm_dump_laws.proofs.Tokens.{Begins, Stops, at_begins, close_begins, close_stops, is_name_text, minus_begins, name_begins, number_begins, open_begins, open_stops, plus_begins, sharp_begins}
-
--- ---- registers and numbers
-
-register_named : (register : Register) → is_name_text (register_text register) ≡ true
-register_named R0 = refl
-register_named R1 = refl
-register_named R2 = refl
-register_named R3 = refl
-register_named R4 = refl
-register_named R5 = refl
-register_named Sp = refl
-register_named Pc = refl
-
-pub register_begins : (register : Register) (rest : Bytes) → Stops rest → Begins sorts.Name (register_text register) rest
-register_begins register rest stops = name_begins (register_text register) rest (register_named register) stops
-
-pub digits_begin : (number : ℕ) (rest : Bytes) → Stops rest → Begins sorts.Number (number_text number) rest
-digits_begin number rest stops = number_begins (number_text number) rest (text_some number) (text_digits number) stops
+use Rattle.m11_asm_dump_laws.proofs.Addresses.{address_token, term_sort}
+use Rattle.m11_asm_dump_laws.proofs.FirstTokens.{digits_begin, register_begins}
+use Rattle.m11_asm_dump_laws.proofs.Tokens.{Begins, Stops, at_begins, close_begins, close_stops, minus_begins, open_begins, open_stops, plus_begins, sharp_begins}
 
 -- ---- registers in brackets
 
@@ -64,7 +50,7 @@ index_length number register =
 
 -- ---- no character of an operand begins no token
 
--- a token before a text adds no such character, and neither does a blank
+-- a token before a text adds no such character, and neither does a blank or a tab
 pub token_kept : (sort : Sort) (first rest : Bytes) → Begins sort first rest → has_skipped (first ++ rest) ≡ has_skipped rest
 token_kept sort first rest begins =
     skipped_first (first ++ rest) (token sort (length first)) (omega (arith, length-append first rest, begins.some)) (sym begins.is)
@@ -75,10 +61,14 @@ pub blank_kept : (rest : Bytes) → has_skipped (0o40 ∷ rest) ≡ has_skipped 
 unfolding first_piece
 blank_kept rest = skipped_first (0o40 ∷ rest) (record { form = Blank; length = 1 }) (omega arith) refl (omega arith)
 
+pub tab_kept : (rest : Bytes) → has_skipped (9 ∷ rest) ≡ has_skipped rest
+unfolding first_piece
+tab_kept rest = skipped_first (9 ∷ rest) (record { form = Blank; length = 1 }) (omega arith) refl (omega arith)
+
 register_kept : (register : Register) (rest : Bytes) → Stops rest → has_skipped (register_text register ++ rest) ≡ has_skipped rest
 register_kept register rest stops = token_kept sorts.Name (register_text register) rest (register_begins register rest stops)
 
-number_kept : (number : ℕ) (rest : Bytes) → Stops rest → has_skipped (number_text number ++ rest) ≡ has_skipped rest
+pub number_kept : (number : ℕ) (rest : Bytes) → Stops rest → has_skipped (number_text number ++ rest) ≡ has_skipped rest
 number_kept number rest stops = token_kept sorts.Number (number_text number) rest (digits_begin number rest stops)
 
 closed_kept : (register : Register) (rest : Bytes) → has_skipped (register_text register ++ 0o51 ∷ rest) ≡ has_skipped rest
@@ -108,31 +98,35 @@ index_kept number register rest =
     let inner : Bytes = register_text register ++ 0o51 ∷ rest in
     number_kept number (0o50 ∷ inner) (open_stops inner) ∙ bracketed_kept register rest
 
-sharp_kept : (number : ℕ) (rest : Bytes) → Stops rest → has_skipped (0o43 ∷ (number_text number ++ rest)) ≡ has_skipped rest
-sharp_kept number rest stops =
-    token_kept sorts.NumberSign (0o43 ∷ []) (number_text number ++ rest) (sharp_begins (number_text number ++ rest))
-    ∙ number_kept number rest stops
+sharp_kept : (text : Bytes) → has_skipped (0o43 ∷ text) ≡ has_skipped text
+sharp_kept text = token_kept sorts.NumberSign (0o43 ∷ []) text (sharp_begins text)
 
 at_kept : (text : Bytes) → has_skipped (0o100 ∷ text) ≡ has_skipped text
 at_kept text = token_kept sorts.At (0o100 ∷ []) text (at_begins text)
 
-pub argument_kept : (a : Argument) (rest : Bytes) → Stops rest → has_skipped (argument_text a ++ rest) ≡ has_skipped rest
-argument_kept (argument.Plain register) rest stops = register_kept register rest stops
-argument_kept (argument.Deferred register) rest stops =
-    ap has_skipped (between_left (codes "(") (codes ")") rest register) ∙ bracketed_kept register rest
-argument_kept (argument.Forward register) rest stops =
-    ap has_skipped (between_left (codes "(") (codes ")+") rest register) ∙ stepped_kept register rest
-argument_kept (argument.DeferredForward register) rest stops =
-    ap has_skipped (between_left (codes "@(") (codes ")+") rest register) ∙ at_kept _ ∙ stepped_kept register rest
-argument_kept (argument.Backward register) rest stops =
-    ap has_skipped (between_left (codes "-(") (codes ")") rest register) ∙ minus_kept register rest
-argument_kept (argument.DeferredBackward register) rest stops =
-    ap has_skipped (between_left (codes "@-(") (codes ")") rest register) ∙ at_kept _ ∙ minus_kept register rest
-argument_kept (argument.Indexed number register) rest stops =
-    ap has_skipped (index_left number rest register) ∙ index_kept number register rest
-argument_kept (argument.DeferredIndexed number register) rest stops =
-    ap (λ text. has_skipped (0o100 ∷ text)) (index_left number rest register) ∙ at_kept _ ∙ index_kept number register rest
-argument_kept (argument.Immediate number) rest stops = sharp_kept number rest stops
-argument_kept (argument.Absolute number) rest stops = at_kept _ ∙ sharp_kept number rest stops
-argument_kept (argument.Relative address) rest stops = number_kept address rest stops
-argument_kept (argument.DeferredRelative address) rest stops = at_kept _ ∙ number_kept address rest stops
+module _ (symbols : List Symbol) (spelled : AllByRecursion IsSpelled symbols) where
+  pub address_kept : (address : ℕ) (rest : Bytes) → Stops rest → has_skipped (address_text symbols address ++ rest) ≡ has_skipped rest
+  address_kept address rest stops =
+      let one = address_token symbols spelled address in
+      token_kept (term_sort one.is_name) (address_text symbols address) rest (one.begins rest stops)
+
+  pub argument_kept : (a : Argument) (rest : Bytes) → Stops rest → has_skipped (argument_text symbols a ++ rest) ≡ has_skipped rest
+  argument_kept (argument.Plain register) rest stops = register_kept register rest stops
+  argument_kept (argument.Deferred register) rest stops =
+      ap has_skipped (between_left (codes "(") (codes ")") rest register) ∙ bracketed_kept register rest
+  argument_kept (argument.Forward register) rest stops =
+      ap has_skipped (between_left (codes "(") (codes ")+") rest register) ∙ stepped_kept register rest
+  argument_kept (argument.DeferredForward register) rest stops =
+      ap has_skipped (between_left (codes "@(") (codes ")+") rest register) ∙ at_kept _ ∙ stepped_kept register rest
+  argument_kept (argument.Backward register) rest stops =
+      ap has_skipped (between_left (codes "-(") (codes ")") rest register) ∙ minus_kept register rest
+  argument_kept (argument.DeferredBackward register) rest stops =
+      ap has_skipped (between_left (codes "@-(") (codes ")") rest register) ∙ at_kept _ ∙ minus_kept register rest
+  argument_kept (argument.Indexed number register) rest stops =
+      ap has_skipped (index_left number rest register) ∙ index_kept number register rest
+  argument_kept (argument.DeferredIndexed number register) rest stops =
+      ap (λ text. has_skipped (0o100 ∷ text)) (index_left number rest register) ∙ at_kept _ ∙ index_kept number register rest
+  argument_kept (argument.Immediate number) rest stops = sharp_kept _ ∙ number_kept number rest stops
+  argument_kept (argument.Absolute address) rest stops = at_kept _ ∙ sharp_kept _ ∙ address_kept address rest stops
+  argument_kept (argument.Relative address) rest stops = address_kept address rest stops
+  argument_kept (argument.DeferredRelative address) rest stops = at_kept _ ∙ address_kept address rest stops

@@ -1,5 +1,5 @@
 -- A line without labels, whose operator or assignment has no flag, assembles to what that emits.
-use Rattle.std.proofs.Common.{◌≡◌, ◌∙◌, ℕ, Bool, false, List, [], ap, ap₂}
+use Rattle.std.proofs.Common.{◌≡◌, ◌∙◌, ℕ, Bool, false, List, [], ◌∷◌, ap, ap₂}
 use Rattle.std.specs.Prelude.{if◌then◌else◌}
 use Rattle.std.specs.Int.Bits.{or_zero_l}
 use Rattle.std.specs.Int.RustNames.{bit_or}
@@ -24,10 +24,11 @@ use Rattle.m11_asm_rules.specs.Meanings.{Map}
 use Rattle.m11_asm_rules.specs.Operations.{operation, operation_of}
 use Rattle.m11_asm_rules.specs.Tables.{Table, firm_table, location, section_name}
 use Rattle.m11_asm_dump_laws.specs.Lines.{Assembles}
-use Rattle.m11_asm_dump_laws.proofs.Terms.{nothing_skipped}
+use Rattle.m11_asm_dump_laws.proofs.Terms.{first_tab_kept, nothing_skipped}
 
+-- after a tab comes the operator, which ends at this column
 abbrev pub operator_ending : ℕ → Body
-operator_ending end = bodies.Operate (record { start = 0; end = end })
+operator_ending end = bodies.Operate (record { start = 1; end = end })
 
 -- a line emits these contents and makes this change, and has no flag but those of unfolding
 pub record Yields (map_ : Map) (table : Table) (given : UnfoldedLine) (contents : List PieceContent) (change : Change) : Type 0 where
@@ -102,14 +103,15 @@ module _ (map_ : Map) (table : Table) (given : UnfoldedLine) (whole : given.live
   yields = record { pieces = pieces_are; flags = flags_are; after = moves_on }
 
 -- a line whose operator ends at a column, and moves the counter on by what it emits
-pub assembles : (map_ : Map) (table : Table) (given : UnfoldedLine) → given.live.line.is_over_long ≡ false → given.is_own ≡ false
-    → (end : ℕ) (act : Action) (contents : List PieceContent) → labels_at given.live.line.text ≡ []
+pub assembles : (map_ : Map) (table : Table) (given : UnfoldedLine) (rest : Bytes) → given.live.line.text ≡ 9 ∷ rest
+    → given.live.line.is_over_long ≡ false → given.is_own ≡ false → (end : ℕ) (act : Action) (contents : List PieceContent)
+    → labels_at given.live.line.text ≡ []
     → body_of given.live.line.text ≡ operator_ending end
     → operation_of given.arguments given.live.line.text (operator_ending end) ≡ does act 0
     → emission_by map_ table given.live.line.text act ≡ emission contents 0 → put_location table act ≡ location table
     → change_of (firm_table table) given.live.line.text act ≡ Counts (Steps (contents_size contents))
     → Assembles map_ table given contents
-assembles map_ table given whole own end act contents unlabelled body acts emits place counts =
+assembles map_ table given rest at whole own end act contents unlabelled body acts emits place counts =
     let made = yields map_ table given whole own (operator_ending end) act contents (Counts (Steps (contents_size contents))) unlabelled
-    body acts (ap (λ b. flag_if b flag_I) (nothing_skipped given.live.line.text 0)) emits place counts in
+    body acts (ap (λ b. flag_if b flag_I) (first_tab_kept given.live.line.text rest at)) emits place counts in
     record { pieces = made.pieces; flags = made.flags; after = made.after }

@@ -41,16 +41,17 @@ use Rattle.m11_asm_dump_laws.specs.Dumps.{HasCounter}
 use Rattle.m11_asm_dump_laws.specs.Knowledge.{ReadsAsMeant}
 use Rattle.m11_asm_dump_laws.specs.Lines.{IsLine}
 use Rattle.m11_asm_dump_laws.specs.Operands.{number_written}
-use Rattle.m11_asm_dump_laws.proofs.ArgumentTexts.{digits_begin, token_kept}
+use Rattle.m11_asm_dump_laws.proofs.ArgumentTexts.{tab_kept, token_kept}
 use Rattle.m11_asm_dump_laws.proofs.Assembled.{Yields, operator_ending, yields}
-use Rattle.m11_asm_dump_laws.proofs.Digits.{AreOctal, text_octal}
+use Rattle.m11_asm_dump_laws.proofs.Digits.{AreOctal, number_width, text_octal}
+use Rattle.m11_asm_dump_laws.proofs.FirstTokens.{digits_begin}
 use Rattle.m11_asm_dump_laws.proofs.Known.{firm_knows, firm_reads}
 use Rattle.m11_asm_dump_laws.proofs.LineEnds.{kept_to_end}
 use Rattle.m11_asm_dump_laws.proofs.OperandTexts.{digits_kept}
 use Rattle.m11_asm_dump_laws.proofs.Quantities.{number_value}
-use Rattle.m11_asm_dump_laws.proofs.Terms.{EndTerm, end_read, expression_read, nothing_skipped}
-use Rattle.m11_asm_dump_laws.proofs.Tokens.{Begins, Stops, name_begins, no_token, none_stops, past, token_at, token_first}
-use Rattle.m11_asm_dump_laws.proofs.Widths.{IsWhole, number_width, whole_line}
+use Rattle.m11_asm_dump_laws.proofs.Terms.{EndTerm, end_read, expression_read, first_tab_kept, nothing_skipped}
+use Rattle.m11_asm_dump_laws.proofs.Tokens.{Begins, Stops, name_begins, no_token, none_stops, past, tab_first, token_at, token_first}
+use Rattle.m11_asm_dump_laws.proofs.Widths.{IsWhole, whole_line}
 
 -- ---- `.ASECT`
 
@@ -58,31 +59,31 @@ use Rattle.m11_asm_dump_laws.proofs.Widths.{IsWhole, number_width, whole_line}
 abbrev pub absolute_table : Table
 absolute_table = with_section absolute_name of_absolute first_table
 
-asect_unlabelled : labels_at (codes ".ASECT") ≡ []
+asect_unlabelled : labels_at (codes "\t.ASECT") ≡ []
 unfolding first_piece
 asect_unlabelled = refl
 
-pub asect_body : body_of (codes ".ASECT") ≡ operator_ending 6
+pub asect_body : body_of (codes "\t.ASECT") ≡ operator_ending 7
 unfolding first_piece
 asect_body = refl
 
 asect_acts : (given : UnfoldedLine)
-    → operation_of given.arguments (codes ".ASECT") (operator_ending 6) ≡ does (Select absolute_name of_absolute []) 0
+    → operation_of given.arguments (codes "\t.ASECT") (operator_ending 7) ≡ does (Select absolute_name of_absolute []) 0
 unfolding first_piece
 asect_acts given = refl
 
-asect_whole : (map_ : Map) (given : UnfoldedLine) → IsWhole given (codes ".ASECT")
+asect_whole : (map_ : Map) (given : UnfoldedLine) → IsWhole given (codes "\t.ASECT")
     → Yields map_ first_table given [] (Selects absolute_name of_absolute)
 unfolding code_of alphabet
 asect_whole map_ given this =
-    yields map_ first_table given this.whole this.own (operator_ending 6) (Select absolute_name of_absolute []) []
+    yields map_ first_table given this.whole this.own (operator_ending 7) (Select absolute_name of_absolute []) []
     (Selects absolute_name of_absolute) (ap labels_at this.text ∙ asect_unlabelled) (ap body_of this.text ∙ asect_body)
-    (ap (λ t. operation_of given.arguments t (operator_ending 6)) this.text ∙ asect_acts given)
-    (ap (λ b. flag_if b flag_I) (nothing_skipped given.live.line.text 0)) refl refl refl
+    (ap (λ t. operation_of given.arguments t (operator_ending 7)) this.text ∙ asect_acts given)
+    (ap (λ b. flag_if b flag_I) (first_tab_kept given.live.line.text (codes ".ASECT") this.text)) refl refl refl
 
-pub asect_yields : (map_ : Map) (given : UnfoldedLine) → IsLine given (codes ".ASECT")
+pub asect_yields : (map_ : Map) (given : UnfoldedLine) → IsLine given (codes "\t.ASECT")
     → Yields map_ first_table given [] (Selects absolute_name of_absolute)
-asect_yields map_ given this = asect_whole map_ given (whole_line given (codes ".ASECT") (omega arith) this)
+asect_yields map_ given this = asect_whole map_ given (whole_line given (codes "\t.ASECT") (omega arith) this)
 
 pub absolute_reads : ReadsAsMeant absolute_table
 unfolding code_of alphabet
@@ -101,10 +102,10 @@ pub absolute_section : section_name absolute_table ≡ absolute_name
 unfolding code_of alphabet
 absolute_section = refl
 
-pub asect_reads : (map_ : Map) (given : UnfoldedLine) → IsLine given (codes ".ASECT") → ReadsAsMeant (after_line map_ first_table given)
+pub asect_reads : (map_ : Map) (given : UnfoldedLine) → IsLine given (codes "\t.ASECT") → ReadsAsMeant (after_line map_ first_table given)
 asect_reads map_ given this = subst ReadsAsMeant (sym (asect_yields map_ given this).after) absolute_reads
 
-pub asect_counted : (map_ : Map) (given : UnfoldedLine) → IsLine given (codes ".ASECT") → HasCounter (after_line map_ first_table given)
+pub asect_counted : (map_ : Map) (given : UnfoldedLine) → IsLine given (codes "\t.ASECT") → HasCounter (after_line map_ first_table given)
 asect_counted map_ given this =
     let P : Table → Type 0 = λ t. HasCounter t in subst P (sym (asect_yields map_ given this).after) absolute_counts
 
@@ -123,56 +124,60 @@ equals_begins (digit ∷ digits) all =
           (ne_eqb digit 0o75 other);
     }
 
-module _ (line : Bytes) (address : ℕ) (at : line ≡ prefixed (codes ".=") address) where
+module _ (line : Bytes) (address : ℕ) (at : line ≡ prefixed (codes "\t.=") address) where
   abbrev digits : Bytes
   digits = number_text address
 
   abbrev point : Lexeme
-  point = token_at sorts.Name 0 (0o56 ∷ [])
+  point = token_at sorts.Name 1 (0o56 ∷ [])
 
   abbrev equals : Lexeme
-  equals = token_at sorts.Equals 1 (0o75 ∷ [])
+  equals = token_at sorts.Equals 2 (0o75 ∷ [])
 
   abbrev final : ℕ
-  final = 2 + length digits
+  final = 3 + length digits
 
-  after_point : drop 1 line ≡ 0o75 ∷ digits
-  after_point = past line (0o56 ∷ []) (0o75 ∷ digits) 0 at
+  after_tab : drop 1 line ≡ 0o56 ∷ (0o75 ∷ digits)
+  after_tab = past line (9 ∷ []) (0o56 ∷ (0o75 ∷ digits)) 0 at
 
-  after_equals : drop 2 line ≡ digits
-  after_equals = past line (0o75 ∷ []) digits 1 after_point
+  after_point : drop 2 line ≡ 0o75 ∷ digits
+  after_point = past line (0o56 ∷ []) (0o75 ∷ digits) 1 after_tab
 
-  written : drop 2 line ≡ digits ++ []
+  after_equals : drop 3 line ≡ digits
+  after_equals = past line (0o75 ∷ []) digits 2 after_point
+
+  written : drop 3 line ≡ digits ++ []
   written = after_equals ∙ sym (append-nil digits)
 
   done : drop final line ≡ []
-  done = past line digits [] 2 written
+  done = past line digits [] 3 written
 
-  tokens_are : tokens_from line 0 ≡ point ∷ (equals ∷ tokens_from line 2)
+  tokens_are : tokens_from line 0 ≡ point ∷ (equals ∷ tokens_from line 3)
   tokens_are =
-      token_first sorts.Name (0o56 ∷ []) (0o75 ∷ digits) line 0 (name_begins (0o56 ∷ []) (0o75 ∷ digits) refl (equals_stops digits)) at
+      tab_first line (0o56 ∷ (0o75 ∷ digits)) at
+      ∙ token_first sorts.Name (0o56 ∷ []) (0o75 ∷ digits) line 1 (name_begins (0o56 ∷ []) (0o75 ∷ digits) refl (equals_stops digits)) after_tab
       ∙ ap (λ ts. point ∷ ts)
-      (token_first sorts.Equals (0o75 ∷ []) digits line 1 (equals_begins digits (text_octal address)) after_point)
+      (token_first sorts.Equals (0o75 ∷ []) digits line 2 (equals_begins digits (text_octal address)) after_point)
 
   set_unlabelled : labels_at line ≡ []
   set_unlabelled = ap labels_in tokens_are
 
-  pub set_body : body_of line ≡ bodies.SetCounter 2
+  pub set_body : body_of line ≡ bodies.SetCounter 3
   set_body =
       ap (λ labels. body_in line (tokens_from line (end_of 0 labels))) set_unlabelled
       ∙ ap (body_in line) tokens_are
-      ∙ ap (λ b. unwrap_or (if b then None else Some (bodies.SetCounter 2)) (reading.operation point)) (nothing_skipped line 1)
+      ∙ ap (λ b. unwrap_or (if b then None else Some (bodies.SetCounter 3)) (reading.operation point)) (nothing_skipped line 2)
 
   ends : EndTerm (tokens_from line final)
   ends = subst EndTerm (sym (no_token line final done)) refl
 
-  address_is : expression line 2 ≡ number_written address
-  address_is = expression_read line 2 2 refl sorts.Number digits [] (digits_begin address [] none_stops) refl written ends
+  address_is : expression line 3 ≡ number_written address
+  address_is = expression_read line 3 3 refl sorts.Number digits [] (digits_begin address [] none_stops) refl written ends
 
-  address_ends : expression_end line 2 ≡ final
-  address_ends = end_read line 2 2 refl sorts.Number digits [] (digits_begin address [] none_stops) refl written ends
+  address_ends : expression_end line 3 ≡ final
+  address_ends = end_read line 3 3 refl sorts.Number digits [] (digits_begin address [] none_stops) refl written ends
 
-  set_acts : (given : UnfoldedLine) → operation_of given.arguments line (bodies.SetCounter 2) ≡ does (SetCounter (number_written address)) 0
+  set_acts : (given : UnfoldedLine) → operation_of given.arguments line (bodies.SetCounter 3) ≡ does (SetCounter (number_written address)) 0
   set_acts given =
       ap₂ (λ e n. does (SetCounter e) (flag_if (has_token (tokens_from line n)) flag_Q)) address_is address_ends
       ∙ ap (λ ts. does (SetCounter (number_written address)) (flag_if (has_token ts) flag_Q)) (no_token line final done)
@@ -180,6 +185,7 @@ module _ (line : Bytes) (address : ℕ) (at : line ≡ prefixed (codes ".=") add
   set_kept : has_skipped line ≡ false
   set_kept =
       ap has_skipped at
+      ∙ tab_kept (0o56 ∷ (0o75 ∷ digits))
       ∙ token_kept sorts.Name (0o56 ∷ []) (0o75 ∷ digits) (name_begins (0o56 ∷ []) (0o75 ∷ digits) refl (equals_stops digits))
       ∙ token_kept sorts.Equals (0o75 ∷ []) digits (equals_begins digits (text_octal address))
       ∙ digits_kept address
@@ -201,16 +207,16 @@ module _ (map_ : Map) (table : Table) (reads : ReadsAsMeant table) (given : Unfo
       (number_value (firm_known firm (location firm)) address (firm_knows firm (firm_reads table reads) (location firm)) below)
       ∙ ap (λ b. if not b then Counts (Goes address) else Keeps) reads.section
 
-  set_whole : IsWhole given (prefixed (codes ".=") address) → Yields map_ table given [] (Counts (Goes address))
+  set_whole : IsWhole given (prefixed (codes "\t.=") address) → Yields map_ table given [] (Counts (Goes address))
   set_whole this =
       let line : Bytes = given.live.line.text in
-      yields map_ table given this.whole this.own (bodies.SetCounter 2) (SetCounter tokens) [] (Counts (Goes address))
+      yields map_ table given this.whole this.own (bodies.SetCounter 3) (SetCounter tokens) [] (Counts (Goes address))
       (set_unlabelled line address this.text) (set_body line address this.text) (set_acts line address this.text given)
       (ap (λ b. flag_if b flag_I)
       (kept_to_end line line 0 (length line) refl (set_kept line address this.text) (drop_all (length line) line (omega arith))))
       set_emits refl set_changes
 
-  pub set_yields : IsLine given (prefixed (codes ".=") address) → Yields map_ table given [] (Counts (Goes address))
+  pub set_yields : IsLine given (prefixed (codes "\t.=") address) → Yields map_ table given [] (Counts (Goes address))
   set_yields this =
       let size = number_width address in
-      set_whole (whole_line given (prefixed (codes ".=") address) (omega (arith, size)) this)
+      set_whole (whole_line given (prefixed (codes "\t.=") address) (omega (arith, size)) this)

@@ -10,7 +10,7 @@ use Rattle.m11_base.specs.Rad50.{Name}
 use Rattle.m11_base.specs.declared.instruction_list.Row.{Row}
 use Rattle.m11_base_disassembly.specs.Instructions.{location_after, row_named, size_by, size_of, statement_of, words_after}
 use Rattle.m11_base_disassembly.specs.Meaning.{AreWords}
-use Rattle.m11_asm_dump_laws.specs.Unnamed.{statement_text}
+use Rattle.m11_asm_dump_laws.specs.Texts.{line_text}
 use Rattle.m11_obj.specs.declared.pieces.Piece.{Piece}
 use Rattle.m11_unfold_rules.specs.Unfolding.{UnfoldedLine}
 use Rattle.m11_asm_rules.specs.Changes.{moved, with_move}
@@ -170,11 +170,11 @@ module _ (symbols : Map) where
       let count : ℕ = size_of word more in
       let first : List ℕ = word ∷ more in
       let after : Table = with_move (Steps (bytes word more)) table in
-      let P : ℕ → Type 0 = λ n. IsLine given (statement_text (statement_of n word more)) in
+      let P : ℕ → Type 0 = λ n. IsLine given (line_text [] (statement_of n word more)) in
       let E : ℕ → Type 0 = λ n. n % 2 ≡ 0 in
       let W : ℕ → Type 0 = λ n. n < 65536 in
       let back = sym at in
-      let one = line_assembled symbols table reads (subst E back even) (subst W back within) given word more all.0
+      let one = line_assembled [] tt symbols table reads tt (subst E back even) (subst W back within) given word more all.0
       (words_left more rest all.1) (subst P back read.0) in
       let left : AreWords (drop count first ++ rest) =
       words_right (take count first) (drop count first ++ rest) (subst AreWords (parted count first rest) all) in

@@ -1,5 +1,5 @@
 -- The digits of a number in octal, without leading zeros, are one number in a source.
-use Rattle.std.proofs.Common.{◌≡◌, ◌∙◌, ℕ, ◌+◌, ◌-◌, ◌*◌, ◌/◌, ◌%◌, ◌^◌, ◌<◌, ◌≤◌, Bool, true, false, [], ◌∷◌, length, refl, ap, arith}
+use Rattle.std.proofs.Common.{◌≡◌, ◌∙◌, ℕ, suc, ◌+◌, ◌-◌, ◌*◌, ◌/◌, ◌%◌, ◌^◌, ◌<◌, ◌≤◌, Bool, true, false, [], ◌∷◌, length, refl, ap, arith}
 use Rattle.std.specs.Prelude.{◌==◌, ◌&&◌, nat_lt, if◌then◌else◌}
 use Rattle.std.specs.Int.RustNames.{bit_or}
 use Rattle.std.specs.List.{AllByRecursion, list_all}
@@ -79,3 +79,18 @@ none_flagged number within =
     ∙ ap (λ b. bit_or (if b then flag_T else 0) (if has_digit_outside 8 (number_text number) then flag_N else 0))
     (le-ltb 65535 number (omega arith))
     ∙ ap (λ b. bit_or 0 (if b then flag_N else 0)) (none_outside (number_text number) (text_octal number))
+
+-- ---- how long a number is
+
+shorter : (b : Bool) (digit : ℕ) (digits : Bytes) → length (significant digits) ≤ length digits
+    → length (if b then significant digits else digit ∷ digits) ≤ suc (length digits)
+shorter true digit digits most = omega (arith, most)
+shorter false digit digits most = omega arith
+
+significant_width : (digits : Bytes) → length (significant digits) ≤ length digits
+significant_width [] = omega arith
+significant_width (digit ∷ digits) =
+    shorter (digit == 48 && nat_lt 0 (length digits)) digit digits (significant_width digits)
+
+pub number_width : (number : ℕ) → length (number_text number) ≤ 6
+number_width number = significant_width (octal_text number)

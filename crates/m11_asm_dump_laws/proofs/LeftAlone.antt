@@ -1,6 +1,7 @@
 -- Unfolding leaves the lines of a disassembly alone: their operators are none of its directives.
 use Rattle.std.proofs.Common.{◌≡◌, ◌∙◌, ℕ, ◌+◌, ◌<◌, Bool, true, false, List, [], ◌∷◌, ◌++◌, length, drop, Option, Some, None, option_map, refl, sym, ap, subst, arith, append-nil, codes}
 use Rattle.std.specs.Prelude.{if◌then◌else◌}
+use Rattle.std.specs.List.{AllByRecursion}
 use Rattle.m11_base.specs.Devices.{Bytes}
 use Rattle.m11_base.specs.NameCharacters.{six_of}
 use Rattle.m11_base.specs.Rad50.{Name, name_of}
@@ -12,8 +13,10 @@ use Rattle.m11_base_disassembly.specs.Statements.{Operands}
 use Rattle.m11_base_disassembly.specs.Statements as statements
 use Rattle.m11_base_disassembly.specs.Names.{bare_name}
 use Rattle.m11_base_disassembly.specs.Texts.{prefixed}
-use Rattle.m11_asm_dump_laws.specs.Unnamed.{statement_text}
-use Rattle.m11_asm_dump_laws.proofs.UnnamedOperands.{operands_text}
+use Rattle.m11_base_disassembly.specs.declared.symbols.Symbol.{Symbol}
+use Rattle.m11_asm_dump_laws.specs.Knowledge.{IsSpelled}
+use Rattle.m11_asm_dump_laws.specs.Texts.{line_text}
+use Rattle.m11_asm_dump_laws.proofs.UnreferredOperands.{operands_text}
 use Rattle.m11_scan.specs.Cutting.{text_between}
 use Rattle.m11_scan_statements.specs.Statements.{body_of}
 use Rattle.m11_scan_statements.specs.declared.spans.Span.{Span}
@@ -35,44 +38,46 @@ use Rattle.m11_asm_dump_laws.proofs.Tokens.{between, is_name_text, no_token, non
 
 -- ---- lines whose operator is a name
 
--- the operator of a line is this name, at its beginning
+-- the operator of a line is this name, after a tab
 record NamedLine (text name : Bytes) : Type 0 where
-  body : body_of text ≡ operator_ending (0 + length name)
-  name_is : text_between text 0 (0 + length name) ≡ name
+  body : body_of text ≡ operator_ending (1 + length name)
+  name_is : text_between text 1 (1 + length name) ≡ name
 
-module _ (text name : Bytes) (padded : is_padded name ≡ true) where
+module _ (symbols : List Symbol) (spelled : AllByRecursion IsSpelled symbols) (text name : Bytes) (padded : is_padded name ≡ true) where
   abbrev bare : Bytes
   bare = bare_name name
 
   abbrev after : ℕ
-  after = 0 + length bare
+  after = 1 + length bare
 
-  bare_line : text ≡ bare → NamedLine text bare
+  bare_line : text ≡ 9 ∷ bare → NamedLine text bare
   bare_line is =
       let parts = name_parts name padded in
-      let at : text ≡ bare ++ [] = is ∙ sym (append-nil bare) in
-      let left : drop after text ≡ [] = past text bare [] 0 at in record {
+      let at : text ≡ 9 ∷ (bare ++ []) = is ∙ ap (λ (t : Bytes). 9 ∷ t) (sym (append-nil bare)) in
+      let begun : drop 1 text ≡ bare ++ [] = past text (9 ∷ []) (bare ++ []) 0 at in
+      let left : drop after text ≡ [] = past text bare [] 1 begun in record {
         body = body_named bare text [] parts.named (no_counter bare parts.other) at none_stops (subst Opens (sym (no_token text after left)) tt);
-        name_is = between text bare [] 0 at (some_name bare parts.named);
+        name_is = between text bare [] 1 begun (some_name bare parts.named);
       }
 
-  operands_line : (operands : Operands) → HasOperands operands → text ≡ statement_text (statements.Named name operands)
+  operands_line : (operands : Operands) → HasOperands operands → text ≡ line_text symbols (statements.Named name operands)
       → NamedLine text bare
   operands_line operands there is =
       let parts = name_parts name padded in
-      let written : Bytes = operands_text operands in
-      let at : text ≡ bare ++ spaced (spaces name) written = is ∙ with_operands name operands there in
-      let left : drop after text ≡ spaced (spaces name) written = past text bare (spaced (spaces name) written) 0 at in
+      let written : Bytes = operands_text symbols operands in
+      let at : text ≡ 9 ∷ (bare ++ spaced (spaces name) written) = is ∙ with_operands symbols name operands there in
+      let named : drop 1 text ≡ bare ++ spaced (spaces name) written = past text (9 ∷ []) (bare ++ spaced (spaces name) written) 0 at in
+      let left : drop after text ≡ spaced (spaces name) written = past text bare (spaced (spaces name) written) 1 named in
       let column : ℕ = after + length (spaces name) + 1 in
       let begun : drop column text ≡ written =
       past text (0o40 ∷ []) written (after + length (spaces name)) (past text (spaces name) (0o40 ∷ written) after left) in
       let same = spaces_first (spaces name) written text after parts.spaced left in record {
         body = body_named bare text (spaced (spaces name) written) parts.named (no_counter bare parts.other) at
-            (spaces_stop (spaces name) written parts.spaced) (subst Opens (sym same) (operands_open text column operands begun));
-        name_is = between text bare (spaced (spaces name) written) 0 at (some_name bare parts.named);
+            (spaces_stop (spaces name) written parts.spaced) (subst Opens (sym same) (operands_open symbols spelled text column operands begun));
+        name_is = between text bare (spaced (spaces name) written) 1 named (some_name bare parts.named);
       }
 
-  named_line : (operands : Operands) → text ≡ statement_text (statements.Named name operands) → NamedLine text bare
+  named_line : (operands : Operands) → text ≡ line_text symbols (statements.Named name operands) → NamedLine text bare
   named_line statements.Nothing is = bare_line is
   named_line (statements.One a) is = operands_line (statements.One a) tt is
   named_line (statements.Two a b) is = operands_line (statements.Two a b) tt is
@@ -122,41 +127,42 @@ foreign_line : (conditions : OpenConditions) (text name : Bytes) → NamedLine t
     → operation conditions [] text ≡ Foreign
 foreign_line conditions text name line none =
     ap (λ b. by_operator conditions text (operator_in b)) line.body
-    ∙ ap (λ t. operation_of conditions [] t (0 + length name)) line.name_is
-    ∙ foreign_name conditions name (0 + length name) none
+    ∙ ap (λ t. operation_of conditions [] t (1 + length name)) line.name_is
+    ∙ foreign_name conditions name (1 + length name) none
 
 data_line : (text name : Bytes) (number : ℕ) → is_name_text name ≡ true → begins_with_point name ≡ true → 1 < length name
-    → text ≡ name ++ spaced gap (number_text number) → NamedLine text name
+    → text ≡ 9 ∷ (name ++ spaced gap (number_text number)) → NamedLine text name
 data_line text (first ∷ (second ∷ name)) number named pointed long at = record {
   body = body_named (first ∷ (second ∷ name)) text (spaced gap (number_text number)) named refl at
       (spaces_stop gap (number_text number) refl) (opens text (first ∷ (second ∷ name)) number at);
-  name_is = between text (first ∷ (second ∷ name)) (spaced gap (number_text number)) 0 at (omega arith);
+  name_is = between text (first ∷ (second ∷ name)) (spaced gap (number_text number)) 1
+      (past text (9 ∷ []) ((first ∷ (second ∷ name)) ++ spaced gap (number_text number)) 0 at) (omega arith);
 }
 data_line text (first ∷ []) number named pointed long at = absurd (omega arith)
 data_line text [] number named pointed long at = absurd (omega arith)
 
-statement_foreign : (conditions : OpenConditions) (row : Option Row) (location word : ℕ) (more : List ℕ) → OfFound IsPadded row
-    → operation conditions [] (statement_text (statement_by row location word more)) ≡ Foreign
-statement_foreign conditions None location word more padded =
-    foreign_line conditions (statement_text (statements.DataWord word)) (codes ".WORD")
-    (data_line (statement_text (statements.DataWord word)) (codes ".WORD") word refl refl (omega arith) refl) refl
-statement_foreign conditions (Some row) location word more padded =
+statement_foreign : (symbols : List Symbol) → AllByRecursion IsSpelled symbols → (conditions : OpenConditions) (row : Option Row) (location word : ℕ) (more : List ℕ) → OfFound IsPadded row
+    → operation conditions [] (line_text symbols (statement_by row location word more)) ≡ Foreign
+statement_foreign symbols spelled conditions None location word more padded =
+    foreign_line conditions (line_text symbols (statements.DataWord word)) (codes ".WORD")
+    (data_line (line_text symbols (statements.DataWord word)) (codes ".WORD") word refl refl (omega arith) refl) refl
+statement_foreign symbols spelled conditions (Some row) location word more padded =
     let operands = operands_of location more (instruction_of word) in
-    let text : Bytes = statement_text (statements.Named row.name operands) in
+    let text : Bytes = line_text symbols (statements.Named row.name operands) in
     let parts = name_parts row.name padded in
-    foreign_line conditions text (bare_name row.name) (named_line text row.name padded operands refl)
+    foreign_line conditions text (bare_name row.name) (named_line symbols spelled text row.name padded operands refl)
     (no_directive (bare_name row.name) parts.named parts.other)
 
-pub word_foreign : (conditions : OpenConditions) (location word : ℕ) (more : List ℕ)
-    → operation conditions [] (statement_text (statement_of location word more)) ≡ Foreign
-word_foreign conditions location word more =
-    statement_foreign conditions (whole_row word more) location word more (row_padded word more)
+pub word_foreign : (symbols : List Symbol) → AllByRecursion IsSpelled symbols → (conditions : OpenConditions) (location word : ℕ) (more : List ℕ)
+    → operation conditions [] (line_text symbols (statement_of location word more)) ≡ Foreign
+word_foreign symbols spelled conditions location word more =
+    statement_foreign symbols spelled conditions (whole_row word more) location word more (row_padded word more)
 
-pub asect_foreign : (conditions : OpenConditions) → operation conditions [] (codes ".ASECT") ≡ Foreign
+pub asect_foreign : (conditions : OpenConditions) → operation conditions [] (codes "\t.ASECT") ≡ Foreign
 asect_foreign conditions =
-    ap (λ b. by_operator conditions (codes ".ASECT") (operator_in b)) asect_body ∙ foreign_name conditions (codes ".ASECT") 6 refl
+    ap (λ b. by_operator conditions (codes "\t.ASECT") (operator_in b)) asect_body ∙ foreign_name conditions (codes ".ASECT") 7 refl
 
-pub set_foreign : (conditions : OpenConditions) (address : ℕ) → operation conditions [] (prefixed (codes ".=") address) ≡ Foreign
+pub set_foreign : (conditions : OpenConditions) (address : ℕ) → operation conditions [] (prefixed (codes "\t.=") address) ≡ Foreign
 set_foreign conditions address =
-    let text : Bytes = prefixed (codes ".=") address in
+    let text : Bytes = prefixed (codes "\t.=") address in
     ap (λ b. by_operator conditions text (operator_in b)) (set_body text address refl)

@@ -1,4 +1,4 @@
-pub mod UnnamedOperands
+pub mod UnreferredOperands
 pub mod Tokens
 pub mod Digits
 pub mod Terms
@@ -26,3 +26,5 @@ pub mod WholeSources
 pub mod LeftAlone
 pub mod PlainSources
 pub mod Example
+pub mod Addresses
+pub mod FirstTokens

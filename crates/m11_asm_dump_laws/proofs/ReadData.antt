@@ -6,7 +6,7 @@ use Rattle.m11_base.specs.Devices.{Bytes}
 use Rattle.m11_base.specs.NameCharacters.{six_of}
 use Rattle.m11_base_disassembly.specs.Numbers.{number_text}
 use Rattle.m11_base_disassembly.specs.Statements as statements
-use Rattle.m11_asm_dump_laws.specs.Unnamed.{statement_text}
+use Rattle.m11_asm_dump_laws.specs.Texts.{line_text}
 use Rattle.m11_scan.specs.Cutting.{tokens_from}
 use Rattle.m11_scan.specs.Ends.{expression_end}
 use Rattle.m11_scan.specs.ErrorFlags.{flag_T, flag_if}
@@ -28,11 +28,11 @@ use Rattle.m11_asm_rules.specs.declared.meanings.Context.TheVariants.{MayBeGloba
 use Rattle.m11_asm_dump_laws.specs.Knowledge.{ReadsAsMeant}
 use Rattle.m11_asm_dump_laws.specs.Lines.{Assembles, IsLine}
 use Rattle.m11_asm_dump_laws.specs.Operands.{number_written}
-use Rattle.m11_asm_dump_laws.proofs.ArgumentTexts.{digits_begin}
+use Rattle.m11_asm_dump_laws.proofs.FirstTokens.{digits_begin}
 use Rattle.m11_asm_dump_laws.proofs.Assembled.{assembles}
 use Rattle.m11_asm_dump_laws.proofs.Known.{table_knows}
 use Rattle.m11_asm_dump_laws.proofs.LineEnds.{clean}
-use Rattle.m11_asm_dump_laws.proofs.OperandTexts.{digits_kept, operands_open, spaced, spaces_first, spaces_kept, spaces_stop}
+use Rattle.m11_asm_dump_laws.proofs.OperandTexts.{digits_kept, number_opens, spaced, spaces_first, spaces_kept, spaces_stop}
 use Rattle.m11_asm_dump_laws.proofs.ReadLines.{does_by, even_flags, even_gap, even_place}
 use Rattle.m11_asm_dump_laws.proofs.ReadStatements.{Opens, body_named, labels_none}
 use Rattle.m11_asm_dump_laws.proofs.Terms.{EndTerm, end_read, expression_read}
@@ -45,9 +45,9 @@ abbrev pub gap : Bytes
 gap = 0o40 ∷ []
 
 -- a list of one number, after the name of a directive
-module _ (line name : Bytes) (number : ℕ) (at : line ≡ name ++ spaced gap (number_text number)) where
+module _ (line name : Bytes) (number : ℕ) (at : line ≡ 9 ∷ (name ++ spaced gap (number_text number))) where
   abbrev start : ℕ
-  start = 0 + length name
+  start = 1 + length name
 
   abbrev column : ℕ
   column = start + 1 + 1
@@ -59,7 +59,7 @@ module _ (line name : Bytes) (number : ℕ) (at : line ≡ name ++ spaced gap (n
   digits = number_text number
 
   left : drop start line ≡ spaced gap digits
-  left = past line name (spaced gap digits) 0 at
+  left = past line name (spaced gap digits) 1 (past line (9 ∷ []) (name ++ spaced gap digits) 0 at)
 
   begun : drop column line ≡ digits
   begun = past line (0o40 ∷ []) digits (start + 1) (past line gap (0o40 ∷ digits) start left)
@@ -97,7 +97,7 @@ module _ (line name : Bytes) (number : ℕ) (at : line ≡ name ++ spaced gap (n
   cleaned = clean line (spaced gap digits) start left (spaces_kept gap digits refl ∙ digits_kept number) final done
 
   pub opens : Opens (tokens_from line start)
-  opens = subst Opens (sym same) (operands_open line column (statements.Number number) begun)
+  opens = subst Opens (sym same) (number_opens line column number [] none_stops written)
 
 odd_place : (here : ℕ) → here < 65536 → location_for false here ≡ here
 odd_place here within = omega arith
@@ -112,38 +112,38 @@ module _ (map_ : Map) (table : Table) (reads : ReadsAsMeant table) (within : loc
   abbrev here : ℕ
   here = location table
 
-  pub word_assembled : (number : ℕ) → number < 65536 → here % 2 ≡ 0 → IsLine given (statement_text (statements.DataWord number))
+  pub word_assembled : (number : ℕ) → number < 65536 → here % 2 ≡ 0 → IsLine given (line_text [] (statements.DataWord number))
       → Assembles map_ table given (map fixed_word (number ∷ []))
   word_assembled number below even line_ =
-      let this = whole_line given (statement_text (statements.DataWord number)) (word_width number) line_ in
+      let this = whole_line given (line_text [] (statements.DataWord number)) (word_width [] tt number) line_ in
       let name : Bytes = codes ".WORD" in
       let one : Expression = number_written number in
       let rest : Bytes = spaced gap (number_text number) in
       let stop = spaces_stop gap (number_text number) refl in
       let opened = opens text name number this.text in
-      assembles map_ table given this.whole this.own 5 (Store (WordList (one ∷ []))) (map fixed_word (number ∷ []))
+      assembles map_ table given (name ++ rest) this.text this.whole this.own 6 (Store (WordList (one ∷ []))) (map fixed_word (number ∷ []))
       (labels_none name text rest refl refl this.text stop opened) (body_named name text rest refl refl this.text stop opened)
-      (ap (λ t. does_by given.arguments text 0 5 (operator_named (six_of t))) (between text name rest 0 this.text (omega arith))
-      ∙ ap (λ l. does (Store (WordList l.list)) (argument_flags text 5 l.end)) (elements_are text name number this.text)
+      (ap (λ t. does_by given.arguments text 1 6 (operator_named (six_of t))) (between text name rest 1 (past text (9 ∷ []) (name ++ rest) 0 this.text) (omega arith))
+      ∙ ap (λ l. does (Store (WordList l.list)) (argument_flags text 6 l.end)) (elements_are text name number this.text)
       ∙ ap (λ f. does (Store (WordList (one ∷ []))) f) (cleaned text name number this.text))
       (ap₂ (λ f l. with_flags f (words_from map_ table l (one ∷ []))) (even_flags here even) (even_place here even within)
       ∙ ap (λ q. with_flags 0 (followed_by (word table false here q) (nothing 0)))
       (number_value (known_at map_ MayBeGlobal table here) number (table_knows table reads here map_ MayBeGlobal) below))
       (even_place here even within) (ap (λ n. Counts (Steps n)) (even_gap here 2 even))
 
-  pub byte_assembled : (number : ℕ) → number < 256 → IsLine given (statement_text (statements.DataByte number))
+  pub byte_assembled : (number : ℕ) → number < 256 → IsLine given (line_text [] (statements.DataByte number))
       → Assembles map_ table given (fixed_byte number ∷ [])
   byte_assembled number small line_ =
-      let this = whole_line given (statement_text (statements.DataByte number)) (byte_width number) line_ in
+      let this = whole_line given (line_text [] (statements.DataByte number)) (byte_width [] tt number) line_ in
       let name : Bytes = codes ".BYTE" in
       let one : Expression = number_written number in
       let rest : Bytes = spaced gap (number_text number) in
       let stop = spaces_stop gap (number_text number) refl in
       let opened = opens text name number this.text in
-      assembles map_ table given this.whole this.own 5 (Store (ByteList (one ∷ []))) (fixed_byte number ∷ [])
+      assembles map_ table given (name ++ rest) this.text this.whole this.own 6 (Store (ByteList (one ∷ []))) (fixed_byte number ∷ [])
       (labels_none name text rest refl refl this.text stop opened) (body_named name text rest refl refl this.text stop opened)
-      (ap (λ t. does_by given.arguments text 0 5 (operator_named (six_of t))) (between text name rest 0 this.text (omega arith))
-      ∙ ap (λ l. does (Store (ByteList l.list)) (argument_flags text 5 l.end)) (elements_are text name number this.text)
+      (ap (λ t. does_by given.arguments text 1 6 (operator_named (six_of t))) (between text name rest 1 (past text (9 ∷ []) (name ++ rest) 0 this.text) (omega arith))
+      ∙ ap (λ l. does (Store (ByteList l.list)) (argument_flags text 6 l.end)) (elements_are text name number this.text)
       ∙ ap (λ f. does (Store (ByteList (one ∷ []))) f) (cleaned text name number this.text))
       (ap (λ l. with_flags 0 (bytes_from map_ table l (one ∷ []))) (odd_place here within)
       ∙ ap (λ q. with_flags 0 (followed_by (byte table here q) (nothing 0)))

@@ -1,13 +1,17 @@
 -- Operands are read as they are written.
-use Rattle.std.proofs.Common.{◌≡◌, ◌∙◌, ℕ, ◌+◌, Bool, true, false, not, List, [], ◌∷◌, ◌++◌, length, drop, refl, sym, ap, subst, arith, codes}
+use Rattle.std.proofs.Common.{◌≡◌, ◌∙◌, ℕ, ◌+◌, Bool, true, false, not, List, [], ◌∷◌, ◌++◌, length, drop, refl, sym, ap, ap₂, subst, arith, codes}
 use Rattle.std.specs.Prelude.{if◌then◌else◌}
+use Rattle.std.specs.List.{AllByRecursion}
 use Rattle.m11_base.specs.Devices.{Bytes}
 use Rattle.m11_base.specs.declared.operand.Register.{Register}
 use Rattle.m11_base_disassembly.specs.Arguments.{Argument}
 use Rattle.m11_base_disassembly.specs.Arguments as argument
 use Rattle.m11_base_disassembly.specs.Numbers.{number_text}
 use Rattle.m11_base_disassembly.specs.Texts.{register_text}
-use Rattle.m11_asm_dump_laws.specs.Unnamed.{argument_text}
+use Rattle.m11_base_disassembly.specs.Symbols.{address_text}
+use Rattle.m11_base_disassembly.specs.declared.symbols.Symbol.{Symbol}
+use Rattle.m11_asm_dump_laws.specs.Knowledge.{IsSpelled}
+use Rattle.m11_asm_dump_laws.specs.Texts.{argument_text}
 use Rattle.m11_scan.specs.Cutting.{Lexeme, tokens_from}
 use Rattle.m11_scan.specs.Ends.{expression_end}
 use Rattle.m11_scan.specs.ErrorFlags.{flag_A}
@@ -19,8 +23,10 @@ use Rattle.m11_scan_expressions.specs.Tokens.{Expression, expression}
 use Rattle.m11_asm_rules.specs.Operands.{Read, after_minus, begun_by, bracketed, closed, closed_by, deferred_by, is_close, is_open, is_plus, operand_at, place, read, stepped_by}
 use Rattle.m11_asm_rules.specs.declared.operands.WrittenOperand.{WrittenOperand}
 use Rattle.m11_asm_rules.specs.declared.operands.WrittenOperand.TheVariants.{Absent, Before, Immediate, Indexed, Plain, Pointed, Stepped}
-use Rattle.m11_asm_dump_laws.specs.Operands.{ends_operand, number_written, operand_written, register_written, single}
-use Rattle.m11_asm_dump_laws.proofs.ArgumentTexts.{between_left, between_length, digits_begin, index_left, index_length, register_begins}
+use Rattle.m11_asm_dump_laws.specs.Operands.{address_written, ends_operand, number_written, operand_written, register_written, single}
+use Rattle.m11_asm_dump_laws.proofs.Addresses.{IsToken, address_token, term_sort}
+use Rattle.m11_asm_dump_laws.proofs.ArgumentTexts.{between_left, between_length, index_left, index_length}
+use Rattle.m11_asm_dump_laws.proofs.FirstTokens.{digits_begin, register_begins}
 use Rattle.m11_asm_dump_laws.proofs.Terms.{Closes, EndTerm, closes_term, end_read, ended_closes, ended_stops, expression_read, foreign_ends, nothing_skipped}
 use Rattle.m11_asm_dump_laws.proofs.Tokens.{Begins, at_begins, close_begins, close_stops, minus_begins, open_begins, open_stops, past, plus_begins, sharp_begins, token_at, token_first}
 
@@ -142,18 +148,17 @@ module _ (line rest : Bytes) (is_deferred : Bool) (column : ℕ) where
       (nothing_skipped line column)
       ∙ closed_read line rest register (column + 1) (past line (0o50 ∷ []) inner column at) (Before is_deferred)
 
-  -- a number, after `#`
-  immediate_read : (number : ℕ) → ends_operand rest ≡ true → drop column line ≡ number_text number ++ rest
+  -- a term, after `#`
+  immediate_read : (sort : Sort) (text : Bytes) → Begins sort text rest → role_of sort ≡ roles.Term → ends_operand rest ≡ true
+      → drop column line ≡ text ++ rest
       → read (Immediate is_deferred (expression line column)) (expression_end line column) 0
-      ≡ read (Immediate is_deferred (number_written number)) (column + length (number_text number)) 0
-  immediate_read number ends at =
-      let digits = number_text number in
-      let begins = digits_begin number rest (ended_stops rest ends) in
-      let ended = closes_term (tokens_from line (column + length digits)) (closes_after digits rest line column ends at) in
+      ≡ read (Immediate is_deferred (single sort text)) (column + length text) 0
+  immediate_read sort text begins term ends at =
+      let ended = closes_term (tokens_from line (column + length text)) (closes_after text rest line column ends at) in
       ap (λ e. read (Immediate is_deferred e) (expression_end line column) 0)
-      (expression_read line column column refl sorts.Number digits rest begins refl at ended)
-      ∙ ap (λ n. read (Immediate is_deferred (number_written number)) n 0)
-      (end_read line column column refl sorts.Number digits rest begins refl at ended)
+      (expression_read line column column refl sort text rest begins term at ended)
+      ∙ ap (λ n. read (Immediate is_deferred (single sort text)) n 0)
+      (end_read line column column refl sort text rest begins term at ended)
 
 -- ---- operands that begin with a term; they are read from any column with the same tokens after it
 
@@ -196,8 +201,23 @@ module _ (line rest : Bytes) (is_deferred : Bool) (start column : ℕ) (same : t
 
 -- ---- each operand
 
-module _ (line rest : Bytes) (ends : ends_operand rest ≡ true) (start column : ℕ)
-    (same : tokens_from line start ≡ tokens_from line column) where
+-- a name or a number is a term, and so it begins an operand by itself
+pub term_role : (b : Bool) → role_of (term_sort b) ≡ roles.Term
+term_role true = refl
+term_role false = refl
+
+term_placed : (line : Bytes) (start end : ℕ) (tokens : List Lexeme) (b : Bool)
+    → operand_from line start (term_sort b) (term_sort b) end tokens ≡ place false line start
+term_placed line start end tokens true = refl
+term_placed line start end tokens false = refl
+
+term_deferred : (line : Bytes) (start column end : ℕ) (text : Bytes) (tokens : List Lexeme) (b : Bool)
+    → deferred_by line start (token_at (term_sort b) column text ∷ tokens) ≡ place true line start
+term_deferred line start column end text tokens true = refl
+term_deferred line start column end text tokens false = refl
+
+module _ (symbols : List Symbol) (spelled : AllByRecursion IsSpelled symbols) (line rest : Bytes) (ends : ends_operand rest ≡ true)
+    (start column : ℕ) (same : tokens_from line start ≡ tokens_from line column) where
   -- what the first token decides
   opened : (sort : Sort) (first text : Bytes) → Begins sort first text → drop column line ≡ first ++ text
       → operand_at line start ≡ operand_by line start (token_at sort column first ∷ tokens_from line (column + length first))
@@ -216,8 +236,8 @@ module _ (line rest : Bytes) (ends : ends_operand rest ≡ true) (start column :
   to_end : (operand : WrittenOperand Expression) (one other : ℕ) → one ≡ other → read operand one 0 ≡ read operand other 0
   to_end operand one other e = ap (λ n. read operand n 0) e
 
-  pub operand_read : (a : Argument) → drop column line ≡ argument_text a ++ rest
-      → operand_at line start ≡ read (operand_written a) (column + length (argument_text a)) 0
+  pub operand_read : (a : Argument) → drop column line ≡ argument_text symbols a ++ rest
+      → operand_at line start ≡ read (operand_written symbols a) (column + length (argument_text symbols a)) 0
   operand_read (argument.Plain register) at =
       let begins = register_begins register rest (ended_stops rest ends) in
       opened sorts.Name (register_text register) rest begins at
@@ -270,26 +290,36 @@ module _ (line rest : Bytes) (ends : ends_operand rest ≡ true) (start column :
   operand_read (argument.Immediate number) at =
       let inner : Bytes = number_text number ++ rest in
       opened sorts.NumberSign (0o43 ∷ []) inner (sharp_begins inner) at
-      ∙ immediate_read line rest false (column + 1) number ends (past line (0o43 ∷ []) inner column at)
+      ∙ immediate_read line rest false (column + 1) sorts.Number (number_text number) (digits_begin number rest (ended_stops rest ends)) refl
+      ends (past line (0o43 ∷ []) inner column at)
       ∙ to_end (Immediate false (number_written number)) _ _ (omega arith)
-  operand_read (argument.Absolute number) at =
-      let inner : Bytes = number_text number ++ rest in
+  operand_read (argument.Absolute address) at =
+      let text : Bytes = address_text symbols address in
+      let one = address_token symbols spelled address in
+      let inner : Bytes = text ++ rest in
       deferred sorts.NumberSign (0o43 ∷ []) inner (sharp_begins inner) at
-      ∙ immediate_read line rest true (column + 1 + 1) number ends
-      (past line (0o43 ∷ []) inner (column + 1) (past line (0o100 ∷ []) (0o43 ∷ inner) column at))
-      ∙ to_end (Immediate true (number_written number)) _ _ (omega arith)
+      ∙ immediate_read line rest true (column + 1 + 1) (term_sort one.is_name) text (one.begins rest (ended_stops rest ends))
+      (term_role one.is_name) ends (past line (0o43 ∷ []) inner (column + 1) (past line (0o100 ∷ []) (0o43 ∷ inner) column at))
+      ∙ ap₂ (λ e n. read (Immediate true e) n 0) (sym one.written) (omega arith)
   operand_read (argument.Relative address) at =
-      let begins = digits_begin address rest (ended_stops rest ends) in
-      opened sorts.Number (number_text address) rest begins at
-      ∙ place_read line rest false start column same sorts.Number (number_text address) begins refl ends at
+      let text : Bytes = address_text symbols address in
+      let one = address_token symbols spelled address in
+      let begins = one.begins rest (ended_stops rest ends) in
+      opened (term_sort one.is_name) text rest begins at
+      ∙ term_placed line start (column + length text) (tokens_from line (column + length text)) one.is_name
+      ∙ place_read line rest false start column same (term_sort one.is_name) text begins (term_role one.is_name) ends at
+      ∙ ap (λ e. read (Plain false e) (column + length text) 0) (sym one.written)
   operand_read (argument.DeferredRelative address) at =
-      let begins = digits_begin address rest (ended_stops rest ends) in
-      deferred sorts.Number (number_text address) rest begins at
-      ∙ place_read line rest true (column + 1) (column + 1) refl sorts.Number (number_text address) begins refl ends
-      (past line (0o100 ∷ []) (number_text address ++ rest) column at)
-      ∙ to_end (Plain true (number_written address)) _ _ (omega arith)
+      let text : Bytes = address_text symbols address in
+      let one = address_token symbols spelled address in
+      let begins = one.begins rest (ended_stops rest ends) in
+      deferred (term_sort one.is_name) text rest begins at
+      ∙ term_deferred line (column + 1) (column + 1) (column + 1 + length text) text (tokens_from line (column + 1 + length text)) one.is_name
+      ∙ place_read line rest true (column + 1) (column + 1) refl (term_sort one.is_name) text begins (term_role one.is_name) ends
+      (past line (0o100 ∷ []) (text ++ rest) column at)
+      ∙ ap₂ (λ e n. read (Plain true e) n 0) (sym one.written) (omega arith)
 
-pub argument_read : (a : Argument) (rest line : Bytes) (column : ℕ) → ends_operand rest ≡ true
-    → drop column line ≡ argument_text a ++ rest
-    → operand_at line column ≡ read (operand_written a) (column + length (argument_text a)) 0
-argument_read a rest line column ends at = operand_read line rest ends column column refl a at
+pub argument_read : (symbols : List Symbol) → AllByRecursion IsSpelled symbols → (a : Argument) (rest line : Bytes) (column : ℕ) → ends_operand rest ≡ true
+    → drop column line ≡ argument_text symbols a ++ rest
+    → operand_at line column ≡ read (operand_written symbols a) (column + length (argument_text symbols a)) 0
+argument_read symbols spelled a rest line column ends at = operand_read symbols spelled line rest ends column column refl a at

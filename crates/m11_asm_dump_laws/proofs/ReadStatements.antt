@@ -1,4 +1,4 @@
--- A line that is a name, or a name and operands, has no labels, and the name is its operator.
+-- A line of a tab and a name, or a name and operands, has no labels, and the name is its operator.
 use Rattle.std.proofs.Common.{◌≡◌, ◌∙◌, ℕ, ◌+◌, Bool, true, false, not, List, [], ◌∷◌, ◌++◌, length, Option, Some, None, option_map, refl, ap}
 use Rattle.std.specs.Prelude.{◌==◌, if◌then◌else◌, unwrap_or}
 use Rattle.std.proofs.lemmas.Bool.{false≢true}
@@ -14,7 +14,7 @@ use Rattle.m11_scan_statements.specs.Statements.{body_of}
 use Rattle.m11_scan_statements.specs.declared.bodies.Body.TheVariants as bodies
 use Rattle.m11_scan_statements.specs.declared.labels.Label.{Label}
 use Rattle.m11_scan_statements.specs.declared.labels.LabelKind.{LabelKind}
-use Rattle.m11_asm_dump_laws.proofs.Tokens.{Stops, is_name_text, name_begins, token_at, token_first}
+use Rattle.m11_asm_dump_laws.proofs.Tokens.{Stops, is_name_text, name_begins, past, tab_first, token_at, token_first}
 
 -- whether operands can begin with a token of this sort
 abbrev pub is_opening : Sort → Bool
@@ -47,7 +47,7 @@ either_same false x = refl
 
 module _ (name : Bytes) where
   abbrev named : Lexeme
-  named = token_at sorts.Name 0 name
+  named = token_at sorts.Name 1 name
 
   abbrev before_labels : Option Label → List Label → List Label
   before_labels found labels = elim found [ None ↦ [] | Some label ↦ label ∷ labels ]
@@ -67,17 +67,19 @@ module _ (name : Bytes) where
       ap (λ s. if skipped_between line named.end token.start then None else s) (no_setting token.sort named token.end opens)
       ∙ either_same (skipped_between line named.end token.start) None
 
-  module _ (line rest : Bytes) (is_name : is_name_text name ≡ true) (other : is_counter name ≡ false) (at : line ≡ name ++ rest)
-      (stops : Stops rest) (opens : Opens (tokens_from line (0 + length name))) where
-    tokens_are : tokens_from line 0 ≡ named ∷ tokens_from line (0 + length name)
-    tokens_are = token_first sorts.Name name rest line 0 (name_begins name rest is_name stops) at
+  module _ (line rest : Bytes) (is_name : is_name_text name ≡ true) (other : is_counter name ≡ false) (at : line ≡ 9 ∷ (name ++ rest))
+      (stops : Stops rest) (opens : Opens (tokens_from line (1 + length name))) where
+    tokens_are : tokens_from line 0 ≡ named ∷ tokens_from line (1 + length name)
+    tokens_are =
+        tab_first line (name ++ rest) at
+        ∙ token_first sorts.Name name rest line 1 (name_begins name rest is_name stops) (past line (9 ∷ []) (name ++ rest) 0 at)
 
     pub labels_none : labels_at line ≡ []
-    labels_none = ap labels_in tokens_are ∙ no_labels (tokens_from line (0 + length name)) opens
+    labels_none = ap labels_in tokens_are ∙ no_labels (tokens_from line (1 + length name)) opens
 
-    pub body_named : body_of line ≡ bodies.Operate (record { start = 0; end = 0 + length name })
+    pub body_named : body_of line ≡ bodies.Operate (record { start = 1; end = 1 + length name })
     body_named =
         ap (λ labels. body_in line (tokens_from line (end_of 0 labels))) labels_none
         ∙ ap (body_in line) tokens_are
-        ∙ ap (λ a. unwrap_or a (operation named)) (no_assignment line (tokens_from line (0 + length name)) opens)
-        ∙ ap (λ b. if not b then bodies.Operate (span_of named) else bodies.Words 0) other
+        ∙ ap (λ a. unwrap_or a (operation named)) (no_assignment line (tokens_from line (1 + length name)) opens)
+        ∙ ap (λ b. if not b then bodies.Operate (span_of named) else bodies.Words 1) other

@@ -1,9 +1,12 @@
 -- Expressions of one token, at a column where they are written.
 use Rattle.std.proofs.Common.{◌≡◌, ◌∙◌, ℕ, suc, ◌+◌, ◌-◌, Bool, true, false, ◌&&◌, List, [], ◌∷◌, ◌++◌, length, take, drop, map, refl, sym, ap, subst, arith}
 use Rattle.std.specs.Prelude.{nat_le, if◌then◌else◌}
-use Rattle.std.proofs.lemmas.Bool.{eqb-true}
+use Rattle.std.proofs.lemmas.Bool.{eqb-true, le-leb}
 use Rattle.m11_base.specs.Devices.{Bytes}
 use Rattle.m11_scan.specs.Cutting.{Lexeme, tokens_from}
+use Rattle.m11_scan.specs.Pieces.{first_piece}
+use Rattle.m11_scan.specs.declared.sort.Form.TheVariants.{Blank}
+use Rattle.m11_scan.proofs.NextPieces.{skipped_first}
 use Rattle.m11_scan.specs.Ends.{column_after, expression_end, sort_in, taken_of}
 use Rattle.m11_scan.specs.Expressions.{begin, count_from, goes_on, role_of, taken}
 use Rattle.m11_scan.specs.Skipped.{has_skipped, skipped_between}
@@ -81,3 +84,12 @@ nothing_skipped line column = ap has_skipped (none (nat_le column column && nat_
     none : (b : Bool) → (if b then take (column - column) (drop column line) else []) ≡ []
     none true = let nothing : column - column ≡ 0 = omega arith in ap (λ n. take n (drop column line)) nothing
     none false = refl
+
+-- a tab at the beginning of a line isn't skipped
+pub first_tab_kept : (line rest : Bytes) → line ≡ 9 ∷ rest → skipped_between line 0 1 ≡ false
+unfolding first_piece
+first_tab_kept line rest at =
+    let some : nat_le 1 (length (9 ∷ rest)) ≡ true = le-leb 1 (length (9 ∷ rest)) (omega arith) in
+    ap (λ text. skipped_between text 0 1) at
+    ∙ ap (λ b. has_skipped (if b then take 1 (9 ∷ rest) else [])) some
+    ∙ skipped_first (9 ∷ []) (record { form = Blank; length = 1 }) (omega arith) refl (omega arith)

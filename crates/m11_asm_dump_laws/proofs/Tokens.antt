@@ -15,6 +15,7 @@ use Rattle.m11_scan.specs.declared.sort.Form.TheVariants.{Blank, Cut}
 use Rattle.m11_scan.specs.declared.sort.Sort.{Sort}
 use Rattle.m11_scan.specs.declared.sort.Sort.TheVariants.{Name, Number, Open, Close, Comma, Plus, Minus, At, NumberSign}
 use Rattle.m11_scan.proofs.NextPieces.{pieces_of-first}
+pub use Rattle.m11_asm_dump_laws.specs.Operands.{is_name_text}
 
 -- ---- the text of a line at a column
 
@@ -75,6 +76,16 @@ blank_first rest line column at =
     ∙ ap (lexemes_from line column) pieces
     ∙ ap (λ text. lexemes_from line (column + 1) (pieces_of text)) (sym (past line (0o40 ∷ []) rest column at))
 
+-- a tab at the beginning of a line is no token
+pub tab_first : (line rest : Bytes) → line ≡ 9 ∷ rest → tokens_from line 0 ≡ tokens_from line 1
+unfolding first_piece
+tab_first line rest at =
+    let pieces : pieces_of (9 ∷ rest) ≡ record { form = Blank; length = 1 } ∷ pieces_of rest =
+    pieces_of-first (9 ∷ rest) (omega arith) (omega arith) in
+    ap (λ text. lexemes_from line 0 (pieces_of text)) at
+    ∙ ap (lexemes_from line 0) pieces
+    ∙ ap (λ text. lexemes_from line 1 (pieces_of text)) (sym (past line (9 ∷ []) rest 0 at))
+
 -- ---- names, numbers and marks
 
 -- what follows isn't part of a name or a number before it
@@ -103,11 +114,6 @@ prefix_all passes (x ∷ xs) rest all stops =
     let now = and_parts (passes x) (list_all passes xs) all in
     ap (λ b. cond b (1 + prefix_len passes (xs ++ rest)) 0) now.0
     ∙ ap (λ n. 1 + n) (prefix_all passes xs rest now.1 stops) ∙ one_more (length xs)
-
--- whether a text is a name: characters of names, the first of which isn't a digit
-abbrev pub is_name_text : Bytes → Bool
-is_name_text [] = false
-is_name_text (byte ∷ text) = not (is_digit byte) && list_all is_name_character (byte ∷ text)
 
 pub name_begins : (name rest : Bytes) → is_name_text name ≡ true → Stops rest → Begins Name name rest
 unfolding first_piece

@@ -8,7 +8,7 @@ use Rattle.m11_base.specs.declared.instruction_list.Row.{Row}
 use Rattle.m11_base_disassembly.specs.Instructions.{location_after, size_by, size_of, statement_of, whole_row}
 use Rattle.m11_base_disassembly.specs.Meaning.{AreWords}
 use Rattle.m11_base_disassembly.specs.Texts.{prefixed}
-use Rattle.m11_asm_dump_laws.specs.Unnamed.{statement_text}
+use Rattle.m11_asm_dump_laws.specs.Texts.{line_text}
 use Rattle.m11_unfold_rules.specs.Unfolding.{UnfoldedLine, Unfolds}
 use Rattle.m11_asm_rules.specs.Changes.{with_move}
 use Rattle.m11_asm_rules.specs.Contents.{fixed_word, pieces_from}
@@ -26,7 +26,7 @@ use Rattle.m11_asm_dump_laws.specs.Dumps.AreLinesOf.{NoLine, OneLine}
 use Rattle.m11_asm_dump_laws.proofs.Beginnings.{absolute_counts, absolute_reads, absolute_section, absolute_table, asect_yields, set_yields}
 use Rattle.m11_asm_dump_laws.proofs.LeftAlone.{asect_foreign, set_foreign}
 use Rattle.m11_asm_dump_laws.proofs.PlainSources.{IsAlone, IsLeft, left_alone, lines_left, read_by, whole_source}
-use Rattle.m11_asm_dump_laws.proofs.Widths.{number_width}
+use Rattle.m11_asm_dump_laws.proofs.Digits.{number_width}
 use Rattle.m11_asm_dump_laws.proofs.Consecutive.{counter_is, flags_in, pieces_in, placed_words, still_counted, still_reads}
 
 -- ---- a source
@@ -74,9 +74,9 @@ source_left : (address : ℕ) (words : List ℕ) (texts : List Bytes) → AreLin
     → AllByRecursion IsLeft (map line_of (source_at address texts))
 source_left address words texts are =
     let size = number_width address in (
-      left_alone (codes ".ASECT") (omega arith) (asect_foreign no_conditions),
+      left_alone (codes "\t.ASECT") (omega arith) (asect_foreign no_conditions),
       (
-        left_alone (prefixed (codes ".=") address) (omega (arith, size)) (set_foreign no_conditions address),
+        left_alone (prefixed (codes "\t.=") address) (omega (arith, size)) (set_foreign no_conditions address),
         lines_left address words texts are,
       ),
     )
@@ -106,8 +106,8 @@ lines_within (suc bound) here (word ∷ more) short =
     let sum = length-append (drop count (word ∷ more)) [] in
     let size = length-drop count (word ∷ more) in
     let rest = lines_within bound (location_after here (2 * count)) left (omega (arith, least, sum, size, short)) in
-    let P : List ℕ → Type 0 = λ l. AreLinesOf here (word ∷ l) (statement_text (statement_of here word more) ∷ rest.0) in
-    (statement_text (statement_of here word more) ∷ rest.0, subst P (append-nil more) (OneLine here word more [] rest.0 rest.1))
+    let P : List ℕ → Type 0 = λ l. AreLinesOf here (word ∷ l) (line_text [] (statement_of here word more) ∷ rest.0) in
+    (line_text [] (statement_of here word more) ∷ rest.0, subst P (append-nil more) (OneLine here word more [] rest.0 rest.1))
 
 pub lines_exist : (here : ℕ) (words : List ℕ) → (texts : List Bytes) × AreLinesOf here words texts
 lines_exist here words = lines_within (length words) here words (omega arith)

@@ -6,7 +6,7 @@ use Rattle.m11_base.specs.Devices.{Bytes}
 use Rattle.m11_base.specs.Names.{absolute_name}
 use Rattle.m11_base_disassembly.specs.Instructions.{location_after, size_of, statement_of}
 use Rattle.m11_base_disassembly.specs.Texts.{prefixed}
-use Rattle.m11_asm_dump_laws.specs.Unnamed.{statement_text}
+use Rattle.m11_asm_dump_laws.specs.Texts.{line_text}
 use Rattle.m11_unfold_rules.specs.Unfolding.{UnfoldedLine}
 use Rattle.m11_asm_rules.specs.Contents.{fixed_word, pieces_from}
 use Rattle.m11_asm_rules.specs.Meanings.{Map}
@@ -20,7 +20,7 @@ pub data AreLinesOf : ℕ → List ℕ → List Bytes → Type 0 where
   NoLine : (here : ℕ) → AreLinesOf here [] []
   OneLine : (here word : ℕ) (more rest : List ℕ) (lines : List Bytes)
       → AreLinesOf (location_after here (2 * size_of word more)) (drop (size_of word more) (word ∷ more) ++ rest) lines
-      → AreLinesOf here (word ∷ (more ++ rest)) (statement_text (statement_of here word more) ∷ lines)
+      → AreLinesOf here (word ∷ (more ++ rest)) (line_text [] (statement_of here word more) ∷ lines)
 
 -- lines with these characters, one after another
 abbrev pub AreRead : List UnfoldedLine → List Bytes → Type 0
@@ -43,7 +43,7 @@ pub record AssembleTo (symbols : Map) (table : Table) (lines : List UnfoldedLine
 
 -- the lines of a source that has these lines at an address
 abbrev pub source_at : ℕ → List Bytes → List Bytes
-source_at address texts = codes ".ASECT" ∷ (prefixed (codes ".=") address ∷ texts)
+source_at address texts = codes "\t.ASECT" ∷ (prefixed (codes "\t.=") address ∷ texts)
 
 -- the live lines of a source emit these words at an address of the absolute section and nothing else, and no line has a flag
 pub record AssembleAt (symbols : Map) (lines : List UnfoldedLine) (address : ℕ) (words : List ℕ) : Type 0 where

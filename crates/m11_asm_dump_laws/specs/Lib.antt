@@ -1,4 +1,4 @@
-pub mod Unnamed
+pub mod Texts
 pub mod Operands
 pub mod Knowledge
 pub mod Lines

@@ -20,18 +20,18 @@ pub fn lines_are_assembled_as_their_words()
     ensures words { (symbols : Map) (table : Table) (lines : List UnfoldedLine) (words : List ℕ) (texts : List Bytes)
         → ReadsAsMeant table → HasCounter table → location table % 2 ≡ 0 → location table < 65536 → AreWords words
         → AreLinesOf (location table) words texts → AreRead lines texts → AssembleTo symbols table lines words }
-    ensures begins { (symbols : Map) (given : UnfoldedLine) → IsLine given (codes ".ASECT")
+    ensures begins { (symbols : Map) (given : UnfoldedLine) → IsLine given (codes "\t.ASECT")
         → HasCounter (after_line symbols first_table given) }
 {}
 
 /// A source that selects the absolute section, sets the location counter to an even address, and has the lines of words there is assembled as
 /// just these words at this address, without a flag: unfolding leaves all its lines as they are. All words have such lines; those of 012701, 5
-/// and 207 at 1000 are `MOV    #5,R1` and `RTS    PC`.
+/// and 207 at 1000 are `MOV    #5,R1` and `RTS    PC`, each after a tab.
 pub fn dumped_words_are_assembled_again()
     ensures words { (symbols : Map) (lines : List UnfoldedLine) (stage : Stage) (address : ℕ) (words : List ℕ) (texts : List Bytes)
         → address % 2 ≡ 0 → address < 65536 → AreWords words → AreLinesOf address words texts
         → Unfolds (map line_of (source_at address texts)) lines stage → move stage ≡ NothingLeft
         → AssembleAt symbols lines address words }
     ensures exists { (address : ℕ) (words : List ℕ) → (texts : List Bytes) × AreLinesOf address words texts }
-    ensures example { AreLinesOf 0o1000 (0o012701 ∷ 5 ∷ 0o000207 ∷ []) (codes "MOV    #5,R1" ∷ codes "RTS    PC" ∷ []) }
+    ensures example { AreLinesOf 0o1000 (0o012701 ∷ 5 ∷ 0o000207 ∷ []) (codes "\tMOV    #5,R1" ∷ codes "\tRTS    PC" ∷ []) }
 {}
