@@ -2,4 +2,5 @@ pub mod Texts
 pub mod Operands
 pub mod Knowledge
 pub mod Lines
+pub mod Items
 pub mod Dumps

@@ -1,5 +1,5 @@
--- The text of a source that means what memory holds: definitions of the names that stand for no line of it, the lines in the absolute section,
--- with their labels, and the transfer address. (MACRO-11 Language Reference Manual, "Assembler statements", "Direct assignment statements",
+-- The text of a source that means what memory holds: in the absolute section definitions of the names that stand for no line, and the lines
+-- with their labels; and the transfer address. (MACRO-11 Language Reference Manual, "Assembler statements", "Direct assignment statements",
 -- ".ASECT directive", "Current location counter", ".END directive".)
 use Rattle.std.specs.Prelude.{ℕ, Bool, ◌+◌, ◌%◌, ◌==◌, if◌then◌else◌, List, [], ◌∷◌, ◌++◌, codes}
 use Rattle.std.specs.List.{flat_map, list_any}
@@ -53,7 +53,7 @@ end_text symbols start = (codes "\t.END" ++ (if start % 2 == 0 then codes "\t" +
 
 -- the source of these lines, with these symbols that were given
 abbrev pub text_by : List Symbol → ℕ → List Line → Bytes
-text_by kept start lines = ((flat_map (assignment lines) kept ++ codes "\t.ASECT\n") ++ lines_text (symbols_in kept start lines) 0 lines)
+text_by kept start lines = ((codes "\t.ASECT\n" ++ flat_map (assignment lines) kept) ++ lines_text (symbols_in kept start lines) 0 lines)
     ++ end_text (symbols_in kept start lines) start
 
 -- the source of what memory holds, with these names and this transfer address

@@ -42,7 +42,7 @@ fn tape_source(alloc: Global, symbols: &[Symbol], tape: &WholeTape) -> Result<Ve
 
 /// Writes a tape as a source, which the assembler and the linker turn into what memory holds after the tape was loaded: lines of instructions
 /// and data from `.ASECT` to `.END`, in the order of their addresses. Addresses that operands name have labels, as far as a line begins there:
-/// the names that `symbols` give them, or else names such as `L01000`. Symbols with other values are assigned theirs before the first line. Of
+/// the names that `symbols` give them, or else names such as `L01000`. Symbols with other values are assigned theirs at the beginning. Of
 /// symbols with one name the first counts, and those that a source can't define are left out. Nothing is read after the transfer block, and
 /// nothing is written before it was read.
 ///

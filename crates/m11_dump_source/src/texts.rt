@@ -120,8 +120,8 @@ pub(crate) fn source_text(
     let kept = kept_of(alloc, symbols)?;
     let all = symbols_in(alloc, &kept, start, &lines)?;
     let mut text = Vec::new(alloc);
-    put_assignments(&mut text, &lines, &kept)?;
     text.extend_from_slice(b"\t.ASECT\n")?;
+    put_assignments(&mut text, &lines, &kept)?;
     put_lines(&mut text, &all, &lines)?;
     put_end(&mut text, &all, start)?;
     Ok(text)
