@@ -1,5 +1,5 @@
 -- A line without labels, whose operator or assignment has no flag, assembles to what that emits.
-use Rattle.std.proofs.Common.{◌≡◌, ◌∙◌, ℕ, Bool, false, List, [], ◌∷◌, ap, ap₂}
+use Rattle.std.proofs.Common.{◌≡◌, ◌∙◌, ℕ, Bool, false, List, [], ◌∷◌, Option, None, ap, ap₂}
 use Rattle.std.specs.Prelude.{if◌then◌else◌}
 use Rattle.std.specs.Int.Bits.{or_zero_l}
 use Rattle.std.specs.Int.RustNames.{bit_or}
@@ -8,6 +8,7 @@ use Rattle.m11_obj.specs.declared.pieces.PieceContent.{PieceContent}
 use Rattle.m11_scan.specs.ErrorFlags.{flag_A, flag_I, flag_L, flag_if}
 use Rattle.m11_scan.specs.Skipped.{skipped_between}
 use Rattle.m11_scan_expressions.specs.LeftOvers.{skip_flags}
+use Rattle.m11_scan_expressions.specs.Quantities.{Quantity}
 use Rattle.m11_scan_statements.specs.Labels.{end_of, labels_at}
 use Rattle.m11_scan_statements.specs.Statements.{body_of, has_outside}
 use Rattle.m11_scan_statements.specs.declared.bodies.Body.{Body}
@@ -22,6 +23,7 @@ use Rattle.m11_asm_rules.specs.Lines.{after_line, change_of, emission_by, flags,
 use Rattle.m11_asm_rules.specs.Locations.{Steps}
 use Rattle.m11_asm_rules.specs.Meanings.{Map}
 use Rattle.m11_asm_rules.specs.Operations.{operation, operation_of}
+use Rattle.m11_asm_rules.specs.Sources.{line_transfer, transfer_by}
 use Rattle.m11_asm_rules.specs.Tables.{Table, firm_table, location, section_name}
 use Rattle.m11_asm_dump_laws.specs.Lines.{Assembles}
 use Rattle.m11_asm_dump_laws.proofs.Terms.{first_tab_kept, nothing_skipped}
@@ -30,11 +32,16 @@ use Rattle.m11_asm_dump_laws.proofs.Terms.{first_tab_kept, nothing_skipped}
 abbrev pub operator_ending : ℕ → Body
 operator_ending end = bodies.Operate (record { start = 1; end = end })
 
--- a line emits these contents and makes this change, and has no flag but those of unfolding
-pub record Yields (map_ : Map) (table : Table) (given : UnfoldedLine) (contents : List PieceContent) (change : Change) : Type 0 where
+-- a line emits these contents and makes this change, has no flag but those of unfolding, and sets this transfer address, or none
+pub record YieldsAll (map_ : Map) (table : Table) (given : UnfoldedLine) (contents : List PieceContent) (change : Change)
+    (address : Option Quantity) : Type 0 where
   pub pieces : pieces map_ table given ≡ pieces_from (section_name table) (location table) contents
   pub flags : flags map_ table given ≡ given.remarks.flags
   pub after : after_line map_ table given ≡ changed map_ change table
+  pub transfer : line_transfer map_ table given ≡ address
+
+abbrev pub Yields : Map → Table → UnfoldedLine → List PieceContent → Change → Type 0
+Yields map_ table given contents change = YieldsAll map_ table given contents change None
 
 module _ (map_ : Map) (table : Table) (given : UnfoldedLine) (whole : given.live.line.is_over_long ≡ false) (own : given.is_own ≡ false)
     (written : Body) (act : Action) (contents : List PieceContent) (change : Change)
@@ -99,8 +106,14 @@ module _ (map_ : Map) (table : Table) (given : UnfoldedLine) (whole : given.live
       ∙ ap (λ o. changed map_ (change_of (firm_table table) line o.action) table) operation_is
       ∙ ap (λ c. changed map_ c table) counts
 
-  pub yields : Yields map_ table given contents change
-  yields = record { pieces = pieces_are; flags = flags_are; after = moves_on }
+  transfer_is : line_transfer map_ table given ≡ transfer_by map_ table act
+  transfer_is = ap₂ (λ t o. transfer_by map_ t o.action) stands_is operation_is
+
+  pub yields_all : YieldsAll map_ table given contents change (transfer_by map_ table act)
+  yields_all = record { pieces = pieces_are; flags = flags_are; after = moves_on; transfer = transfer_is }
+
+  pub yields : transfer_by map_ table act ≡ None → Yields map_ table given contents change
+  yields none = record { pieces = pieces_are; flags = flags_are; after = moves_on; transfer = transfer_is ∙ none }
 
 -- a line whose operator ends at a column, and moves the counter on by what it emits
 pub assembles : (map_ : Map) (table : Table) (given : UnfoldedLine) (rest : Bytes) → given.live.line.text ≡ 9 ∷ rest
@@ -109,9 +122,9 @@ pub assembles : (map_ : Map) (table : Table) (given : UnfoldedLine) (rest : Byte
     → body_of given.live.line.text ≡ operator_ending end
     → operation_of given.arguments given.live.line.text (operator_ending end) ≡ does act 0
     → emission_by map_ table given.live.line.text act ≡ emission contents 0 → put_location table act ≡ location table
-    → change_of (firm_table table) given.live.line.text act ≡ Counts (Steps (contents_size contents))
+    → change_of (firm_table table) given.live.line.text act ≡ Counts (Steps (contents_size contents)) → transfer_by map_ table act ≡ None
     → Assembles map_ table given contents
-assembles map_ table given rest at whole own end act contents unlabelled body acts emits place counts =
+assembles map_ table given rest at whole own end act contents unlabelled body acts emits place counts sets =
     let made = yields map_ table given whole own (operator_ending end) act contents (Counts (Steps (contents_size contents))) unlabelled
-    body acts (ap (λ b. flag_if b flag_I) (first_tab_kept given.live.line.text rest at)) emits place counts in
-    record { pieces = made.pieces; flags = made.flags; after = made.after }
+    body acts (ap (λ b. flag_if b flag_I) (first_tab_kept given.live.line.text rest at)) emits place counts sets in
+    record { pieces = made.pieces; flags = made.flags; after = made.after; transfer = made.transfer }

@@ -79,7 +79,7 @@ asect_whole map_ given this =
     yields map_ first_table given this.whole this.own (operator_ending 7) (Select absolute_name of_absolute []) []
     (Selects absolute_name of_absolute) (ap labels_at this.text ∙ asect_unlabelled) (ap body_of this.text ∙ asect_body)
     (ap (λ t. operation_of given.arguments t (operator_ending 7)) this.text ∙ asect_acts given)
-    (ap (λ b. flag_if b flag_I) (first_tab_kept given.live.line.text (codes ".ASECT") this.text)) refl refl refl
+    (ap (λ b. flag_if b flag_I) (first_tab_kept given.live.line.text (codes ".ASECT") this.text)) refl refl refl refl
 
 pub asect_yields : (map_ : Map) (given : UnfoldedLine) → IsLine given (codes "\t.ASECT")
     → Yields map_ first_table given [] (Selects absolute_name of_absolute)
@@ -111,10 +111,10 @@ asect_counted map_ given this =
 
 -- ---- `.=` with an address
 
-equals_stops : (rest : Bytes) → Stops (0o75 ∷ rest)
+pub equals_stops : (rest : Bytes) → Stops (0o75 ∷ rest)
 equals_stops rest = record { name = refl; digits = refl; number = λ count. refl }
 
-equals_begins : (digits : Bytes) → AreOctal digits → Begins sorts.Equals (0o75 ∷ []) digits
+pub equals_begins : (digits : Bytes) → AreOctal digits → Begins sorts.Equals (0o75 ∷ []) digits
 unfolding first_piece
 equals_begins [] all = record { some = omega arith; is = refl }
 equals_begins (digit ∷ digits) all =
@@ -214,7 +214,7 @@ module _ (map_ : Map) (table : Table) (reads : ReadsAsMeant table) (given : Unfo
       (set_unlabelled line address this.text) (set_body line address this.text) (set_acts line address this.text given)
       (ap (λ b. flag_if b flag_I)
       (kept_to_end line line 0 (length line) refl (set_kept line address this.text) (drop_all (length line) line (omega arith))))
-      set_emits refl set_changes
+      set_emits refl set_changes refl
 
   pub set_yields : IsLine given (prefixed (codes "\t.=") address) → Yields map_ table given [] (Counts (Goes address))
   set_yields this =

@@ -28,3 +28,6 @@ pub mod PlainSources
 pub mod Example
 pub mod Addresses
 pub mod FirstTokens
+pub mod LabelLines
+pub mod AssignLines
+pub mod EndLines

@@ -49,7 +49,7 @@ module _ (line : Bytes) (column : ℕ) where
   number_opens number rest stops at = opens_with sorts.Number (number_text number) rest refl (digits_begin number rest stops) at
 
 module _ (symbols : List Symbol) (spelled : AllByRecursion IsSpelled symbols) (line : Bytes) (column : ℕ) where
-  address_opens : (address : ℕ) (rest : Bytes) → Stops rest → drop column line ≡ address_text symbols address ++ rest
+  pub address_opens : (address : ℕ) (rest : Bytes) → Stops rest → drop column line ≡ address_text symbols address ++ rest
       → Opens (tokens_from line column)
   address_opens address rest stops at =
       let one = address_token symbols spelled address in

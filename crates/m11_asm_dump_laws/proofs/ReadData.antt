@@ -129,7 +129,7 @@ module _ (map_ : Map) (table : Table) (reads : ReadsAsMeant table) (within : loc
       (ap₂ (λ f l. with_flags f (words_from map_ table l (one ∷ []))) (even_flags here even) (even_place here even within)
       ∙ ap (λ q. with_flags 0 (followed_by (word table false here q) (nothing 0)))
       (number_value (known_at map_ MayBeGlobal table here) number (table_knows table reads here map_ MayBeGlobal) below))
-      (even_place here even within) (ap (λ n. Counts (Steps n)) (even_gap here 2 even))
+      (even_place here even within) (ap (λ n. Counts (Steps n)) (even_gap here 2 even)) refl
 
   pub byte_assembled : (number : ℕ) → number < 256 → IsLine given (line_text [] (statements.DataByte number))
       → Assembles map_ table given (fixed_byte number ∷ [])
@@ -150,4 +150,4 @@ module _ (map_ : Map) (table : Table) (reads : ReadsAsMeant table) (within : loc
       (number_value (known_at map_ MayBeGlobal table here) number (table_knows table reads here map_ MayBeGlobal) (omega arith))
       ∙ ap (λ h. emission (fixed_byte number ∷ []) (bit_or 0 (bit_or (bit_or 0 (flag_if (not (h == 0 || h == 0o377)) flag_T)) 0)))
       (low_half number small))
-      (odd_place here within) refl
+      (odd_place here within) refl refl

@@ -127,7 +127,7 @@ module _ (map_ : Map) (table : Table) (reads : ReadsAsMeant table) (even : locat
       assembles map_ table given (name ++ rest) at whole own end (Operate operation end) (map fixed_word words)
       (labels_none name line rest named (no_counter name other) at stops opens)
       (body_named name line rest named (no_counter name other) at stops opens) does_it emits
-      (even_place (location table) even within) counts
+      (even_place (location table) even within) counts refl
 
 -- ---- lines of operations
 

@@ -41,7 +41,7 @@ no_setting sorts.Equals target end opens = absurd (false≢true opens)
 no_setting sorts.TwoEquals target end opens = absurd (false≢true opens)
 no_setting sort target end opens = refl
 
-either_same : {A : Type 0} (b : Bool) (x : A) → (if b then x else x) ≡ x
+pub either_same : {A : Type 0} (b : Bool) (x : A) → (if b then x else x) ≡ x
 either_same true x = refl
 either_same false x = refl
 

@@ -76,15 +76,18 @@ blank_first rest line column at =
     ∙ ap (lexemes_from line column) pieces
     ∙ ap (λ text. lexemes_from line (column + 1) (pieces_of text)) (sym (past line (0o40 ∷ []) rest column at))
 
--- a tab at the beginning of a line is no token
-pub tab_first : (line rest : Bytes) → line ≡ 9 ∷ rest → tokens_from line 0 ≡ tokens_from line 1
+-- a tab is no token
+pub tab_at : (line rest : Bytes) (column : ℕ) → drop column line ≡ 9 ∷ rest → tokens_from line column ≡ tokens_from line (column + 1)
 unfolding first_piece
-tab_first line rest at =
+tab_at line rest column at =
     let pieces : pieces_of (9 ∷ rest) ≡ record { form = Blank; length = 1 } ∷ pieces_of rest =
     pieces_of-first (9 ∷ rest) (omega arith) (omega arith) in
-    ap (λ text. lexemes_from line 0 (pieces_of text)) at
-    ∙ ap (lexemes_from line 0) pieces
-    ∙ ap (λ text. lexemes_from line 1 (pieces_of text)) (sym (past line (9 ∷ []) rest 0 at))
+    ap (λ text. lexemes_from line column (pieces_of text)) at
+    ∙ ap (lexemes_from line column) pieces
+    ∙ ap (λ text. lexemes_from line (column + 1) (pieces_of text)) (sym (past line (9 ∷ []) rest column at))
+
+pub tab_first : (line rest : Bytes) → line ≡ 9 ∷ rest → tokens_from line 0 ≡ tokens_from line 1
+tab_first line rest at = tab_at line rest 0 at
 
 -- ---- names, numbers and marks
 
