@@ -90,7 +90,7 @@ number_token number = record {
   short = number_width number;
 }
 
-bare_short : (symbol : Symbol) → length (bare_name (name_text symbol.name)) ≤ 6
+pub bare_short : (symbol : Symbol) → length (bare_name (name_text symbol.name)) ≤ 6
 bare_short symbol =
     let name : Bytes = name_text symbol.name in
     let e = ap length (bare_parts name) in let f = length-append (bare_name name) (spaces name) in omega (arith, e, f)

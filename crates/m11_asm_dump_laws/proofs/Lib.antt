@@ -31,3 +31,4 @@ pub mod FirstTokens
 pub mod LabelLines
 pub mod AssignLines
 pub mod EndLines
+pub mod ItemsPlaced
