@@ -98,11 +98,11 @@ none_yet symbol found is = let P : Option Definition → Type 0 = λ f. AtMostDe
 abbrev pub Fits : Table → Symbol → Type 0
 Fits table symbol = AtMostDefines symbol (last_definition (Named symbol.name) table.definitions)
 
-defined_fits : (table : Table) (symbol : Symbol) → IsDefinedIn table symbol → Fits table symbol
+pub defined_fits : (table : Table) (symbol : Symbol) → IsDefinedIn table symbol → Fits table symbol
 defined_fits table symbol is =
     at_most symbol is.definition (last_definition (Named symbol.name) table.definitions) is.last is.standing
 
-new_fits : (table : Table) (symbol : Symbol) → IsNewIn table symbol → Fits table symbol
+pub new_fits : (table : Table) (symbol : Symbol) → IsNewIn table symbol → Fits table symbol
 new_fits table symbol is = none_yet symbol (last_definition (Named symbol.name) table.definitions) is
 
 -- a map gives a symbol its value, once
@@ -196,8 +196,14 @@ new_undefined symbol found is = ap is_some is
 -- ---- each line
 
 module _ (map_ : Map) (table : Table) (here : ℕ) (done : List Symbol) (at : StandsAt table here done) (given : UnfoldedLine) where
-  abbrev Leads : Item → Type 0
+  -- a symbol that has no definition yet, and isn't that of the line, has none afterwards
+  abbrev Keeps : Item → Table → Type 0
+  Keeps item new = (other : Symbol) → AllByRecursion (λ symbol. is_same_name other.name symbol.name ≡ false) (defined_in item)
+      → IsNewIn table other → IsNewIn new other
+
+  abbrev pub Leads : Item → Type 0
   Leads item = (new : Table) × Does map_ table given here item new × StandsAt new (after_item here item) (done ++ defined_in item)
+      × Keeps item new
 
   same_done : (new : Table) (next : ℕ) → StandsAt new next done → StandsAt new next (done ++ [])
   same_done new next stands =
@@ -212,7 +218,7 @@ module _ (map_ : Map) (table : Table) (here : ℕ) (done : List Symbol) (at : St
       (each (IsDefinedIn table) (IsDefinedIn after) (defined_stays table symbol definition standing firm new) done at.defined)
       (defined_now table symbol definition standing firm new, tt)
 
-  labelled_leads : (symbol : Symbol) → IsSpelled symbol → IsNoRegister symbol → symbol.value ≡ here → IsNewIn table symbol
+  pub labelled_leads : (symbol : Symbol) → IsSpelled symbol → IsNoRegister symbol → symbol.value ≡ here → IsNewIn table symbol
       → IsLine given (symbol_text symbol ++ codes ":") → Leads (Labelled symbol)
   labelled_leads symbol spelled other value new this =
       let text : Bytes = symbol_text symbol ++ codes ":" in
@@ -237,9 +243,10 @@ module _ (map_ : Map) (table : Table) (here : ℕ) (done : List Symbol) (at : St
               (λ one is. record { definition = is.definition; last = is.last; standing = is.standing; firm = is.firm })
               (done ++ symbol ∷ []) (with_one symbol (labelled table) standing refl new);
         },
+        λ one differs is. new_stays table symbol (labelled table) standing refl new one differs.0 is,
       )
 
-  assigned_leads : (symbol : Symbol) → IsSpelled symbol → IsNoRegister symbol → symbol.value < 65536 → IsNewIn table symbol
+  pub assigned_leads : (symbol : Symbol) → IsSpelled symbol → IsNoRegister symbol → symbol.value < 65536 → IsNewIn table symbol
       → IsFinal map_ symbol → IsLine given (symbol_text symbol ++ codes "=" ++ number_text symbol.value) → Leads (Assigned symbol)
   assigned_leads symbol spelled other below new final this =
       let text : Bytes = symbol_text symbol ++ 0o75 ∷ number_text symbol.value in
@@ -268,6 +275,7 @@ module _ (map_ : Map) (table : Table) (here : ℕ) (done : List Symbol) (at : St
           once = at.once;
           defined = with_one symbol (numbered symbol.value) refl refl new;
         },
+        λ one differs is. new_stays table symbol (numbered symbol.value) refl refl new one differs.0 is,
       )
 
   -- a line that moves the counter, and defines nothing
@@ -292,12 +300,13 @@ module _ (map_ : Map) (table : Table) (here : ℕ) (done : List Symbol) (at : St
   further_within : (location_ size : ℕ) → further location_ size < 65536
   further_within location_ size = omega arith
 
-  moved_leads : (address : ℕ) → address < 65536 → IsLine given (prefixed (codes "\t.=") address) → Leads (MovedTo address)
+  pub moved_leads : (address : ℕ) → address < 65536 → IsLine given (prefixed (codes "\t.=") address) → Leads (MovedTo address)
   moved_leads address below this =
       let made = set_yields map_ table at.reads given address below this in (
         moved_to (Goes address),
         record { pieces = made.pieces; flags = made.flags; after = made.after; transfer = made.transfer },
         same_done (moved_to (Goes address)) address (still (Goes address) address (itself address below) below),
+        λ one differs is. is,
       )
 
   -- a line that emits contents of this size
@@ -318,16 +327,17 @@ module _ (map_ : Map) (table : Table) (here : ℕ) (done : List Symbol) (at : St
         },
         subst Q (sym none) (same_done (moved_to move) (after_item here item)
             (still move (after_item here item) further_is (subst P (sym next) (further_within here size)))),
+        λ one differs is. is,
       )
 
-  byte_leads : (byte : ℕ) → byte < 256 → IsLine given (line_text [] (DataByte byte)) → Leads (ShowsByte byte)
+  pub byte_leads : (byte : ℕ) → byte < 256 → IsLine given (line_text [] (DataByte byte)) → Leads (ShowsByte byte)
   byte_leads byte small this =
       let W : ℕ → Type 0 = λ n. n < 65536 in
       steps (ShowsByte byte) (fixed_byte byte ∷ []) 1 refl refl refl refl
       (byte_assembled map_ table at.reads (subst W (sym at.place) at.within) given byte small this)
 
   module _ (symbols : List Symbol) (spelled : AllByRecursion IsSpelled symbols) (has : AllByRecursion (HasValue map_ table) symbols) where
-    words_lead : (word : ℕ) (more : List ℕ) → here % 2 ≡ 0 → word < 65536 → AreWords more → size_of word more ≡ 1 + length more
+    pub words_lead : (word : ℕ) (more : List ℕ) → here % 2 ≡ 0 → word < 65536 → AreWords more → size_of word more ≡ 1 + length more
         → IsLine given (line_text symbols (statement_of here word more)) → Leads (Shows word more)
     words_lead word more even fits all size this =
         let W : ℕ → Type 0 = λ n. n < 65536 in

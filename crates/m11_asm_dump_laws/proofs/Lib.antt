@@ -32,3 +32,4 @@ pub mod LabelLines
 pub mod AssignLines
 pub mod EndLines
 pub mod ItemsPlaced
+pub mod ItemsWalked
