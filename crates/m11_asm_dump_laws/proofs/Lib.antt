@@ -33,3 +33,4 @@ pub mod AssignLines
 pub mod EndLines
 pub mod ItemsPlaced
 pub mod ItemsWalked
+pub mod EndedSources

@@ -51,14 +51,14 @@ lines_left _ _ _ (OneLine here word more rest texts next) = (
 -- ---- stages with nothing open
 
 -- these lines are left at a stage, no condition and no body is open, no macro is defined, and no `.END` became live
-record IsAt (stage : Stage) (lines : List SourceLine) : Type 0 where
-  left : stage.left ≡ map line_left lines
-  conditions : stage.conditions ≡ no_conditions
-  opening : stage.opening ≡ None
-  macros : stage.macros ≡ []
-  goes_on : stage.has_ended ≡ false
+pub record IsAt (stage : Stage) (lines : List SourceLine) : Type 0 where
+  pub left : stage.left ≡ map line_left lines
+  pub conditions : stage.conditions ≡ no_conditions
+  pub opening : stage.opening ≡ None
+  pub macros : stage.macros ≡ []
+  pub goes_on : stage.has_ended ≡ false
 
-abbrev by_left : Stage → List RemainingItem → Move
+abbrev pub by_left : Stage → List RemainingItem → Move
 by_left stage left = elim left [
   | [] ↦ NothingLeft
   | End mark ∷ rest ↦ Passes (ended mark rest stage)
@@ -72,13 +72,13 @@ by_skipped line stage found = elim found [
 ]
 
 -- the stage after the next line was read, and that line as a live one
-abbrev next_stage : Stage → List SourceLine → Stage
+abbrev pub next_stage : Stage → List SourceLine → Stage
 next_stage stage lines = one_taken (map line_left lines) stage
 
-abbrev next_live : SourceLine → List SourceLine → Live
+abbrev pub next_live : SourceLine → List SourceLine → Live
 next_live line lines = record { line = line; is_expanded = is_expanding (map line_left lines) }
 
-next_move : (stage : Stage) (line : SourceLine) (lines : List SourceLine) → IsAt stage (line ∷ lines)
+pub next_move : (stage : Stage) (line : SourceLine) (lines : List SourceLine) → IsAt stage (line ∷ lines)
     → move stage ≡ Gives (next_live line lines) (next_stage stage lines)
 next_move stage line lines at =
     ap (λ b. if b then NothingLeft else by_left stage stage.left) at.goes_on
@@ -89,17 +89,17 @@ next_move stage line lines at =
 no_move : (stage : Stage) → IsAt stage [] → move stage ≡ NothingLeft
 no_move stage at = ap (λ b. if b then NothingLeft else by_left stage stage.left) at.goes_on ∙ ap (by_left stage) at.left
 
-next_at : (stage : Stage) (line : SourceLine) (lines : List SourceLine) → IsAt stage (line ∷ lines) → IsAt (next_stage stage lines) lines
+pub next_at : (stage : Stage) (line : SourceLine) (lines : List SourceLine) → IsAt stage (line ∷ lines) → IsAt (next_stage stage lines) lines
 next_at stage line lines at =
     record { left = refl; conditions = at.conditions; opening = at.opening; macros = at.macros; goes_on = at.goes_on }
 
-acts_alone : (known : KnownSymbols) (stage : Stage) (line : SourceLine) (lines : List SourceLine) → IsAt stage lines → IsLeft line
+pub acts_alone : (known : KnownSymbols) (stage : Stage) (line : SourceLine) (lines : List SourceLine) → IsAt stage lines → IsLeft line
     → act known stage line.text ≡ foreign stage
 acts_alone known stage line lines at is =
     ap₂ (λ c m. acted_by known line.text stage (operation c m line.text)) at.conditions at.macros
     ∙ ap (acted_by known line.text stage) is
 
-no_pass : (stage after : Stage) (lines : List SourceLine) → IsAt stage lines → move stage ≡ Passes after → ⊥
+pub no_pass : (stage after : Stage) (lines : List SourceLine) → IsAt stage lines → move stage ≡ Passes after → ⊥
 no_pass stage after [] at passes = let e : NothingLeft ≡ Passes after = sym (no_move stage at) ∙ passes in cc
 no_pass stage after (line ∷ lines) at passes =
     let e : Gives (next_live line lines) (next_stage stage lines) ≡ Passes after = sym (next_move stage line lines at) ∙ passes in cc
@@ -110,7 +110,7 @@ no_pass stage after (line ∷ lines) at passes =
 abbrev pub IsAlone : UnfoldedLine → Type 0
 IsAlone line = (line.is_own ≡ false) × (line.remarks ≡ no_remarks)
 
-abbrev line_in : UnfoldedLine → SourceLine
+abbrev pub line_in : UnfoldedLine → SourceLine
 line_in line = line.live.line
 
 -- the live lines are the first lines of a source, and the others are left
@@ -120,7 +120,7 @@ record AreFirst (source : List SourceLine) (done : List UnfoldedLine) (stage : S
   at : IsAt stage others
   alone : AllByRecursion IsAlone done
 
-one_more : (done : List UnfoldedLine) (line : UnfoldedLine) → AllByRecursion IsAlone done → IsAlone line
+pub one_more : (done : List UnfoldedLine) (line : UnfoldedLine) → AllByRecursion IsAlone done → IsAlone line
     → AllByRecursion IsAlone (done ++ line ∷ [])
 one_more [] line all is = (is, tt)
 one_more (first ∷ done) line all is = (all.0, one_more done line all.1 is)
