@@ -7,7 +7,7 @@ use Rattle.m11_base.specs.Devices.{Bytes}
 use Rattle.m11_base.specs.NameCharacters.{six_of}
 use Rattle.m11_base_disassembly.specs.Symbols.{address_text}
 use Rattle.m11_base_disassembly.specs.declared.symbols.Symbol.{Symbol}
-use Rattle.m11_scan.specs.Cutting.{tokens_from}
+use Rattle.m11_scan.specs.Cutting.{text_between, tokens_from}
 use Rattle.m11_scan.specs.Ends.{expression_end}
 use Rattle.m11_scan.specs.ErrorFlags.{flag_I, flag_if}
 use Rattle.m11_scan.specs.Pieces.{first_piece}
@@ -121,6 +121,9 @@ module _ (symbols : List Symbol) (spelled : AllByRecursion IsSpelled symbols) (l
   pub end_body : body_of line ≡ operator_ending 5
   end_body = body_named (codes ".END") line rest refl refl at (tab_stops text) opens
 
+  pub end_named : text_between line 1 5 ≡ codes ".END"
+  end_named = between line (codes ".END") rest 1 after_tab (omega arith)
+
   ends : EndTerm (tokens_from line final)
   ends = subst EndTerm (sym (no_token line final done)) refl
 
@@ -140,7 +143,7 @@ module _ (symbols : List Symbol) (spelled : AllByRecursion IsSpelled symbols) (l
   pub end_acts : (given : UnfoldedLine)
       → operation_of given.arguments line (operator_ending 5) ≡ does (Transfer (address_written symbols address)) 0
   end_acts given =
-      ap (λ t. does_by given.arguments line 1 5 (operator_named (six_of t))) (between line (codes ".END") rest 1 after_tab (omega arith))
+      ap (λ t. does_by given.arguments line 1 5 (operator_named (six_of t))) end_named
       ∙ ap₂ (λ e n. does (Transfer e) (argument_flags line 5 n)) address_is address_ends
       ∙ ap (does (Transfer (address_written symbols address))) cleaned
 

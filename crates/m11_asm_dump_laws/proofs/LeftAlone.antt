@@ -20,11 +20,12 @@ use Rattle.m11_asm_dump_laws.proofs.UnreferredOperands.{operands_text}
 use Rattle.m11_scan.specs.Cutting.{text_between}
 use Rattle.m11_scan_statements.specs.Statements.{body_of}
 use Rattle.m11_scan_statements.specs.declared.spans.Span.{Span}
-use Rattle.m11_unfold_bodies.specs.Conditions.{OpenConditions, is_skipping}
+use Rattle.m11_unfold_bodies.specs.Conditions.{OpenConditions, is_skipping, no_conditions}
 use Rattle.m11_unfold_rules.specs.Acting.{Calls, Foreign, Operation, OwnDirective, macro_of, operation, operation_of}
 use Rattle.m11_unfold_rules.specs.Directives.{directive_named, directive_rows, operator_in}
 use Rattle.m11_unfold_rules.specs.Stages.{Macro}
 use Rattle.m11_unfold_rules.specs.declared.directives.Directive.{Directive}
+use Rattle.m11_unfold_rules.specs.declared.directives.Directive.TheVariants.{End}
 use Rattle.m11_asm_dump_laws.proofs.Assembled.{operator_ending}
 use Rattle.m11_asm_dump_laws.proofs.Beginnings.{asect_body, set_body}
 use Rattle.m11_asm_dump_laws.proofs.Emitted.{HasOperands}
@@ -117,7 +118,7 @@ no_directive name named other =
 
 -- ---- the operation of each line, where no macro is defined
 
-abbrev by_operator : OpenConditions → Bytes → Option Span → Operation
+abbrev pub by_operator : OpenConditions → Bytes → Option Span → Operation
 by_operator conditions text found = elim found [
   | None ↦ Foreign
   | Some name ↦ operation_of conditions [] (text_between text name.start name.end) name.end
@@ -166,3 +167,16 @@ pub set_foreign : (conditions : OpenConditions) (address : ℕ) → operation co
 set_foreign conditions address =
     let text : Bytes = prefixed (codes "\t.=") address in
     ap (λ b. by_operator conditions text (operator_in b)) (set_body text address refl)
+
+pub byte_foreign : (conditions : OpenConditions) (byte : ℕ) → operation conditions [] (line_text [] (statements.DataByte byte)) ≡ Foreign
+byte_foreign conditions byte =
+    foreign_line conditions (line_text [] (statements.DataByte byte)) (codes ".BYTE")
+    (data_line (line_text [] (statements.DataByte byte)) (codes ".BYTE") byte refl refl (omega arith) refl) refl
+
+-- `.END` ends the source
+pub end_is_own : (text : Bytes) → body_of text ≡ operator_ending 5 → text_between text 1 5 ≡ codes ".END"
+    → operation no_conditions [] text ≡ OwnDirective End 5
+end_is_own text body name =
+    ap (λ b. by_operator no_conditions text (operator_in b)) body
+    ∙ ap (λ t. operation_of no_conditions [] t 5) name
+    ∙ ap (by_macro (codes ".END") 5) (no_macro no_conditions (name_of (six_of (codes ".END"))))

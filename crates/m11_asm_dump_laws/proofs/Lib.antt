@@ -34,3 +34,4 @@ pub mod EndLines
 pub mod ItemsPlaced
 pub mod ItemsWalked
 pub mod EndedSources
+pub mod ItemsLeft

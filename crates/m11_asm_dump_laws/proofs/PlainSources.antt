@@ -7,6 +7,8 @@ use Rattle.m11_base.specs.Devices.{Bytes}
 use Rattle.m11_base.specs.Instructions.{instruction_of}
 use Rattle.m11_base.specs.declared.instruction_list.Row.{Row}
 use Rattle.m11_base_disassembly.specs.Instructions.{operands_of, statement_by, statement_of, whole_row}
+use Rattle.m11_base_disassembly.specs.declared.symbols.Symbol.{Symbol}
+use Rattle.m11_asm_dump_laws.specs.Knowledge.{IsSpelled}
 use Rattle.m11_asm_dump_laws.specs.Texts.{line_text}
 use Rattle.m11_scan.specs.Line.{SourceLine, line_limit, line_of}
 use Rattle.m11_scan_expressions.specs.Expressions.{KnownSymbols}
@@ -34,16 +36,16 @@ IsLeft line = operation no_conditions [] line.text ≡ Foreign
 pub left_alone : (text : Bytes) → length text ≤ line_limit → operation no_conditions [] text ≡ Foreign → IsLeft (line_of text)
 left_alone text most foreign_ = ap (operation no_conditions []) (take_all line_limit text most) ∙ foreign_
 
-statement_width : (row : Option Row) (location word : ℕ) (more : List ℕ) → OfFound IsPadded row
-    → length (line_text [] (statement_by row location word more)) ≤ line_limit
-statement_width None location word more padded = word_width [] tt word
-statement_width (Some row) location word more padded =
-    line_width [] tt row.name (operands_of location more (instruction_of word)) (name_parts row.name padded).short
+pub statement_width : (symbols : List Symbol) → AllByRecursion IsSpelled symbols → (row : Option Row) (location word : ℕ) (more : List ℕ) → OfFound IsPadded row
+    → length (line_text symbols (statement_by row location word more)) ≤ line_limit
+statement_width symbols spelled None location word more padded = word_width symbols spelled word
+statement_width symbols spelled (Some row) location word more padded =
+    line_width symbols spelled row.name (operands_of location more (instruction_of word)) (name_parts row.name padded).short
 
 pub lines_left : (here : ℕ) (words : List ℕ) (texts : List Bytes) → AreLinesOf here words texts → AllByRecursion IsLeft (map line_of texts)
 lines_left _ _ _ (NoLine here) = tt
 lines_left _ _ _ (OneLine here word more rest texts next) = (
-  left_alone (line_text [] (statement_of here word more)) (statement_width (whole_row word more) here word more (row_padded word more))
+  left_alone (line_text [] (statement_of here word more)) (statement_width [] tt (whole_row word more) here word more (row_padded word more))
       (word_foreign [] tt no_conditions here word more),
   lines_left _ _ texts next,
 )
