@@ -1,5 +1,5 @@
 -- The last line of a source: `.END` with an address, or alone.
-use Rattle.std.proofs.Common.{◌≡◌, ◌∙◌, ℕ, ◌+◌, ◌%◌, ◌<◌, Bool, true, false, List, [], ◌∷◌, ◌++◌, length, drop, Option, Some, None, refl, sym, ap, ap₂, subst, arith, append-nil, codes}
+use Rattle.std.proofs.Common.{◌≡◌, ◌∙◌, ℕ, ◌+◌, ◌%◌, ◌≤◌, ◌<◌, Bool, true, false, List, [], ◌∷◌, ◌++◌, length, drop, Option, Some, None, refl, sym, ap, ap₂, subst, arith, append-nil, codes}
 use Rattle.std.specs.Prelude.{◌==◌, if◌then◌else◌}
 use Rattle.std.specs.Int.RustNames.{bit_and}
 use Rattle.std.specs.List.{AllByRecursion}
@@ -10,6 +10,7 @@ use Rattle.m11_base_disassembly.specs.declared.symbols.Symbol.{Symbol}
 use Rattle.m11_scan.specs.Cutting.{text_between, tokens_from}
 use Rattle.m11_scan.specs.Ends.{expression_end}
 use Rattle.m11_scan.specs.ErrorFlags.{flag_I, flag_if}
+use Rattle.m11_scan.specs.Line.{line_limit}
 use Rattle.m11_scan.specs.Pieces.{first_piece}
 use Rattle.m11_scan.specs.Skipped.{has_skipped}
 use Rattle.m11_scan_expressions.specs.Expressions.{KnownSymbols, value}
@@ -30,7 +31,7 @@ use Rattle.m11_asm_rules.specs.Operators.{operator_named}
 use Rattle.m11_asm_rules.specs.Sources.{line_transfer}
 use Rattle.m11_asm_rules.specs.Tables.{Table, location}
 use Rattle.m11_asm_rules.specs.declared.meanings.Context.TheVariants.{LocalOnly}
-use Rattle.m11_asm_dump_laws.specs.Items.{end_text}
+use Rattle.m11_asm_dump_laws.specs.Items.{end_text, start_of}
 use Rattle.m11_asm_dump_laws.specs.Knowledge.{IsSpelled, KnowsNames}
 use Rattle.m11_asm_dump_laws.specs.Operands.{address_written}
 use Rattle.m11_asm_dump_laws.proofs.Addresses.{IsToken, address_token, address_value, term_sort}
@@ -173,10 +174,6 @@ address_ending symbols spelled map_ table given address below knows this =
 
 -- ---- the last line
 
--- the transfer address of a program that starts at an even address
-abbrev pub start_set : ℕ → Option Quantity
-start_set start = if start % 2 == 0 then Some (absolute start 0) else None
-
 ends_by : (symbols : List Symbol) (spelled : AllByRecursion IsSpelled symbols) (map_ : Map) (table : Table) (given : UnfoldedLine) (start : ℕ)
     → start < 65536 → KnowsNames symbols (known_at map_ LocalOnly table (location table)) → (b : Bool)
     → IsWhole given (codes "\t.END" ++ (if b then codes "\t" ++ address_text symbols start else []))
@@ -186,6 +183,14 @@ ends_by symbols spelled map_ table given start below knows false this = alone_en
 
 pub end_ends : (symbols : List Symbol) → AllByRecursion IsSpelled symbols → (map_ : Map) (table : Table) (given : UnfoldedLine) (start : ℕ)
     → start < 65536 → KnowsNames symbols (known_at map_ LocalOnly table (location table)) → IsWhole given (end_text symbols start)
-    → EndsWith map_ table given (start_set start)
+    → EndsWith map_ table given (start_of start)
 end_ends symbols spelled map_ table given start below knows this =
     ends_by symbols spelled map_ table given start below knows (start % 2 == 0) this
+
+short_by : (symbols : List Symbol) → AllByRecursion IsSpelled symbols → (start : ℕ) (b : Bool)
+    → length (codes "\t.END" ++ (if b then codes "\t" ++ address_text symbols start else [])) ≤ line_limit
+short_by symbols spelled start true = let short = (address_token symbols spelled start).short in omega (arith, short)
+short_by symbols spelled start false = omega arith
+
+pub end_short : (symbols : List Symbol) → AllByRecursion IsSpelled symbols → (start : ℕ) → length (end_text symbols start) ≤ line_limit
+end_short symbols spelled start = short_by symbols spelled start (start % 2 == 0)

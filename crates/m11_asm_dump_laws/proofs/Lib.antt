@@ -35,3 +35,4 @@ pub mod ItemsPlaced
 pub mod ItemsWalked
 pub mod EndedSources
 pub mod ItemsLeft
+pub mod WholeItems

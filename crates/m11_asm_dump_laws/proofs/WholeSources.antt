@@ -59,7 +59,7 @@ source_placed symbols (first ∷ (second ∷ lines)) address words texts even be
           ∙ ap (λ l. first.remarks.flags ∷ (second.remarks.flags ∷ l)) others.flags;
     }
 
-flags_zero : (placements : List LinePlacement) (lines : List UnfoldedLine)
+pub flags_zero : (placements : List LinePlacement) (lines : List UnfoldedLine)
     → flags_in placements ≡ map (λ (given : UnfoldedLine). given.remarks.flags) lines → AllByRecursion IsAlone lines
     → AllByRecursion (λ (line : LinePlacement). line.flags ≡ 0) placements
 flags_zero [] lines same alone = tt

@@ -1,6 +1,6 @@
 -- The lines of a source that says what memory holds: labels, assignments, moves of the location counter, and what words and bytes hold.
 -- (MACRO-11 Language Reference Manual, "Label field", "Direct assignment statements", "Current location counter" and ".END directive".)
-use Rattle.std.specs.Prelude.{◌≡◌, ℕ, ◌+◌, ◌*◌, ◌%◌, ◌<◌, ◌==◌, false, if◌then◌else◌, List, [], ◌∷◌, ◌++◌, codes, length, map}
+use Rattle.std.specs.Prelude.{◌≡◌, ℕ, ◌+◌, ◌*◌, ◌%◌, ◌<◌, ◌==◌, false, if◌then◌else◌, List, [], ◌∷◌, ◌++◌, Option, Some, None, codes, length, map}
 use Rattle.std.specs.List.{AllByRecursion, flat_map}
 use Rattle.m11_base.specs.Devices.{Bytes}
 use Rattle.m11_base.specs.Names.{absolute_name}
@@ -16,7 +16,13 @@ use Rattle.m11_base_disassembly.specs.Texts.{prefixed}
 use Rattle.m11_base_disassembly.specs.declared.symbols.Symbol.{Symbol}
 use Rattle.m11_obj.specs.declared.pieces.Piece.{Piece}
 use Rattle.m11_obj.specs.declared.pieces.PieceContent.{PieceContent}
+use Rattle.m11_scan_expressions.specs.Quantities.{Quantity, absolute}
+use Rattle.m11_unfold_rules.specs.Unfolding.{UnfoldedLine}
 use Rattle.m11_asm_rules.specs.Contents.{fixed_byte, fixed_word, further, pieces_from}
+use Rattle.m11_asm_rules.specs.Meanings.{empty_map}
+use Rattle.m11_asm_rules.specs.Placements.{placement, program_map}
+use Rattle.m11_asm_rules.specs.Sources.{transfer_after}
+use Rattle.m11_asm_rules.specs.Tables.{first_table}
 use Rattle.m11_asm_dump_laws.specs.Knowledge.{IsSpelled, register_name}
 use Rattle.m11_asm_dump_laws.specs.Texts.{line_text}
 
@@ -120,3 +126,16 @@ end_text symbols start = codes "\t.END" ++ (if start % 2 == 0 then codes "\t" ++
 -- the lines of a source that has these items in the absolute section
 abbrev pub source_of : List Symbol → ℕ → List Item → List Bytes
 source_of symbols start items = codes "\t.ASECT" ∷ (texts_of symbols 0 items ++ end_text symbols start ∷ [])
+
+-- ---- the assembly of a source
+
+-- the transfer address of a source that starts here: none, if that is odd
+abbrev pub start_of : ℕ → Option Quantity
+start_of start = if start % 2 == 0 then Some (absolute start 0) else None
+
+-- live lines put what these items say at its addresses in the absolute section, and nothing else; no line has a flag; and the transfer address
+-- is the start
+pub record AssembleAs (lines : List UnfoldedLine) (start : ℕ) (items : List Item) : Type 0 where
+  pub pieces : flat_map (λ placed. placed.pieces) (placement (program_map lines) lines) ≡ pieces_of 0 items
+  pub unflagged : AllByRecursion (λ placed. placed.flags ≡ 0) (placement (program_map lines) lines)
+  pub transfer : transfer_after empty_map first_table lines ≡ start_of start

@@ -15,3 +15,8 @@ mod lines;
 
 pub use dumps::{dumped_words_are_assembled_again, lines_are_assembled_as_their_words};
 pub use lines::a_line_is_assembled_as_its_words;
+
+// Sources of tapes: labels and assignments too.
+mod items;
+
+pub use items::a_source_of_items_is_assembled_as_they_say;
