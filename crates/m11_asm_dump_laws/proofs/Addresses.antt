@@ -63,7 +63,7 @@ own_value address symbol is stands =
 no_distance : (address value_ : ℕ) → value_ ≡ address → address - value_ ≡ 0
 no_distance address value_ e = omega (arith, e)
 
-bare_text : (address : ℕ) (symbol : Symbol) → symbol.value ≡ address → name_from symbol address ≡ bare_name (name_text symbol.name)
+pub bare_text : (address : ℕ) (symbol : Symbol) → symbol.value ≡ address → name_from symbol address ≡ bare_name (name_text symbol.name)
 bare_text address symbol is =
     ap (λ n. bare_name (name_text symbol.name) ++ distance_text n) (no_distance address symbol.value is)
     ∙ append-nil (bare_name (name_text symbol.name))

@@ -36,3 +36,4 @@ pub mod ItemsWalked
 pub mod EndedSources
 pub mod ItemsLeft
 pub mod WholeItems
+pub mod PlainTexts
