@@ -1,0 +1,2 @@
+pub mod LinesWithin
+pub mod Written

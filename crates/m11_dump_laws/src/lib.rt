@@ -1,0 +1,8 @@
+//! Laws of the source that `m11-dump -s` writes of a tape: it says what memory holds. Each law is the contract of a function that does
+//! nothing. (MACRO-11 Language Reference Manual, "Source program format".)
+#![tactic(auto)]
+
+// The source as items.
+mod items;
+
+pub use items::the_source_is_the_text_of_its_items;
