@@ -2,7 +2,9 @@
 //! nothing. (MACRO-11 Language Reference Manual, "Source program format".)
 #![tactic(auto)]
 
-// The source as items.
+// The source as items, and what they store.
 mod items;
+mod pieces;
 
 pub use items::the_source_is_the_text_of_its_items;
+pub use pieces::the_pieces_are_the_bytes_of_memory;

@@ -1,0 +1,20 @@
+//! The bytes that a source of memory stores.
+
+ghost use Rattle.std.specs.Prelude.{◌≡◌, ℕ, List, map, None, slice_index_or};
+ghost use Rattle.m11_base.specs.Names.{absolute_name};
+ghost use Rattle.m11_base_disassembly.specs.declared.symbols.Symbol.{Symbol};
+ghost use Rattle.m11_cpu_laws.specs.Image.{byte_of};
+ghost use Rattle.m11_cli_image.specs.Addresses.{Addresses};
+ghost use Rattle.m11_cli_image.specs.Pieces.{placed};
+ghost use Rattle.m11_asm_dump_laws.specs.Items.{pieces_of};
+ghost use Rattle.m11_dump_source.specs.Memory.{Cells};
+ghost use Rattle.m11_dump_laws.specs.Items.{AreCells, items_of};
+
+/// What the items of memory put into a program whose absolute section begins at 0 are the bytes of memory: at each address that has a byte
+/// just this one, and none at the others.
+#[tactic(auto, using(crate::proofs::Placed::bytes_are_those_of_memory))]
+pub fn the_pieces_are_the_bytes_of_memory()
+    ensures { (program : Addresses) (source : ℕ) (names : List Symbol) (start : ℕ) (cells : Cells) (address : ℕ) → AreCells cells
+        → program.base source absolute_name ≡ 0
+        → byte_of (map (placed program source) (pieces_of 0 (items_of names start cells))) address ≡ slice_index_or cells address None }
+{}
