@@ -4,3 +4,5 @@ pub mod Shown
 pub mod CellsFound
 pub mod BytesStored
 pub mod Placed
+pub mod LinesLive
+pub mod MemoryDefined
