@@ -2,7 +2,13 @@ pub mod LinesWithin
 pub mod Written
 pub mod Shown
 pub mod CellsFound
+pub mod Names
 pub mod BytesStored
+pub mod SoundLines
+pub mod Among
 pub mod Placed
 pub mod LinesLive
 pub mod MemoryDefined
+pub mod MadeNames
+pub mod AllSymbols
+pub mod WellFormed
