@@ -51,42 +51,42 @@ name_known name is =
     )
 
 -- a character that is neither `%` nor a blank stands for itself
-itself : (c : ℕ) → (c == 37) ≡ false → (c == 32) ≡ false → is_known c ≡ true → (is_name_character c ≡ true) × (folded c ≡ c)
-itself c percent space known =
-    let own : Bool = is_name_character c && folded c == c in
-    let left : ((c == 32) || own) ≡ true = ap (λ (b : Bool). b || ((c == 32) || own)) (sym percent) ∙ known in
+itself : (character : ℕ) → (character == 37) ≡ false → (character == 32) ≡ false → is_known character ≡ true → (is_name_character character ≡ true) × (folded character ≡ character)
+itself character percent space known =
+    let own : Bool = is_name_character character && folded character == character in
+    let left : ((character == 32) || own) ≡ true = ap (λ (b : Bool). b || ((character == 32) || own)) (sym percent) ∙ known in
     let last : own ≡ true = ap (λ (b : Bool). b || own) (sym space) ∙ left in
-    let parts = and_parts (is_name_character c) (folded c == c) last in (parts.0, eqb-true (folded c) c parts.1)
+    let parts = and_parts (is_name_character character) (folded character == character) last in (parts.0, eqb-true (folded character) character parts.1)
 
 -- ---- a name up to its first space
 
-named_by : (c : ℕ) (cs : Bytes) (b : Bool) → (c == 32) ≡ b → is_known c ≡ true
-    → (if b then are_spaces cs else not (c == 37) && is_padded cs) ≡ true
-    → (is_padded cs ≡ true → list_all is_name_character (bare_name cs) ≡ true)
-    → list_all is_name_character (if b then [] else c ∷ bare_name cs) ≡ true
-named_by c cs true is known padded others = refl
-named_by c cs false is known padded others =
-    let parts = and_parts (not (c == 37)) (is_padded cs) padded in
-    let own = itself c (not-true (c == 37) parts.0) is known in
-    and_from (is_name_character c) (list_all is_name_character (bare_name cs)) own.0 (others parts.1)
+named_by : (character : ℕ) (following : Bytes) (b : Bool) → (character == 32) ≡ b → is_known character ≡ true
+    → (if b then are_spaces following else not (character == 37) && is_padded following) ≡ true
+    → (is_padded following ≡ true → list_all is_name_character (bare_name following) ≡ true)
+    → list_all is_name_character (if b then [] else character ∷ bare_name following) ≡ true
+named_by character following true is known padded others = refl
+named_by character following false is known padded others =
+    let parts = and_parts (not (character == 37)) (is_padded following) padded in
+    let own = itself character (not-true (character == 37) parts.0) is known in
+    and_from (is_name_character character) (list_all is_name_character (bare_name following)) own.0 (others parts.1)
 
 named_characters : (characters : Bytes) → AreKnown characters → is_padded characters ≡ true
     → list_all is_name_character (bare_name characters) ≡ true
 named_characters [] known padded = refl
-named_characters (c ∷ cs) known padded =
-    named_by c cs (c == 32) refl known.0 padded (λ p. named_characters cs known.1 p)
+named_characters (character ∷ following) known padded =
+    named_by character following (character == 32) refl known.0 padded (λ p. named_characters following known.1 p)
 
-space_at : (cs : Bytes) → are_spaces cs ≡ true → (index : ℕ) → index < length cs → slice_index cs index ≡ 32
+space_at : (following : Bytes) → are_spaces following ≡ true → (index : ℕ) → index < length following → slice_index following index ≡ 32
 space_at [] spaces index within = absurd (omega (arith, within))
-space_at (c ∷ cs) spaces zero within = eqb-true c 32 (and_parts (c == 32) (are_spaces cs) spaces).0
-space_at (c ∷ cs) spaces (suc index) within =
-    space_at cs (and_parts (c == 32) (are_spaces cs) spaces).1 index (omega (arith, within))
+space_at (character ∷ following) spaces zero within = eqb-true character 32 (and_parts (character == 32) (are_spaces following) spaces).0
+space_at (character ∷ following) spaces (suc index) within =
+    space_at following (and_parts (character == 32) (are_spaces following) spaces).1 index (omega (arith, within))
 
 past : (index : ℕ) → character_at [] index ≡ 32
 past index = ap (λ (b : Bool). if b then folded 0 else 32) (le-ltb index 0 (omega arith))
 
-first_at : (c : ℕ) (text : Bytes) → character_at (c ∷ text) 0 ≡ folded c
-first_at c text = ap (λ (b : Bool). if b then folded c else 32) (lt-ltb 0 (suc (length text)) (omega arith))
+first_at : (character : ℕ) (text : Bytes) → character_at (character ∷ text) 0 ≡ folded character
+first_at character text = ap (λ (b : Bool). if b then folded character else 32) (lt-ltb 0 (suc (length text)) (omega arith))
 
 lt_next : (one other : ℕ) → nat_lt (suc one) (suc other) ≡ nat_lt one other
 lt_next one other = elim (cases_lt one other) [
@@ -94,28 +94,28 @@ lt_next one other = elim (cases_lt one other) [
   | inr above ↦ le-ltb (suc one) (suc other) (omega (arith, above)) ∙ sym (le-ltb one other above)
 ]
 
-next_at : (c : ℕ) (text : Bytes) (index : ℕ) → character_at (c ∷ text) (suc index) ≡ character_at text index
-next_at c text index = ap (λ (b : Bool). if b then folded (slice_index text index) else 32) (lt_next index (length text))
+next_at : (character : ℕ) (text : Bytes) (index : ℕ) → character_at (character ∷ text) (suc index) ≡ character_at text index
+next_at character text index = ap (λ (b : Bool). if b then folded (slice_index text index) else 32) (lt_next index (length text))
 
-same_by : (c : ℕ) (cs : Bytes) (b : Bool) → (c == 32) ≡ b → is_known c ≡ true
-    → (if b then are_spaces cs else not (c == 37) && is_padded cs) ≡ true
-    → (is_padded cs ≡ true → (index : ℕ) → index < length cs → character_at (bare_name cs) index ≡ slice_index cs index)
-    → (index : ℕ) → index < suc (length cs) → character_at (if b then [] else c ∷ bare_name cs) index ≡ slice_index (c ∷ cs) index
-same_by c cs true is known padded others zero within = past 0 ∙ sym (eqb-true c 32 is)
-same_by c cs true is known padded others (suc index) within =
-    past (suc index) ∙ sym (space_at cs padded index (omega (arith, within)))
-same_by c cs false is known padded others zero within =
-    let parts = and_parts (not (c == 37)) (is_padded cs) padded in
-    first_at c (bare_name cs) ∙ (itself c (not-true (c == 37) parts.0) is known).1
-same_by c cs false is known padded others (suc index) within =
-    let parts = and_parts (not (c == 37)) (is_padded cs) padded in
-    next_at c (bare_name cs) index ∙ others parts.1 index (omega (arith, within))
+same_by : (character : ℕ) (following : Bytes) (b : Bool) → (character == 32) ≡ b → is_known character ≡ true
+    → (if b then are_spaces following else not (character == 37) && is_padded following) ≡ true
+    → (is_padded following ≡ true → (index : ℕ) → index < length following → character_at (bare_name following) index ≡ slice_index following index)
+    → (index : ℕ) → index < suc (length following) → character_at (if b then [] else character ∷ bare_name following) index ≡ slice_index (character ∷ following) index
+same_by character following true is known padded others zero within = past 0 ∙ sym (eqb-true character 32 is)
+same_by character following true is known padded others (suc index) within =
+    past (suc index) ∙ sym (space_at following padded index (omega (arith, within)))
+same_by character following false is known padded others zero within =
+    let parts = and_parts (not (character == 37)) (is_padded following) padded in
+    first_at character (bare_name following) ∙ (itself character (not-true (character == 37) parts.0) is known).1
+same_by character following false is known padded others (suc index) within =
+    let parts = and_parts (not (character == 37)) (is_padded following) padded in
+    next_at character (bare_name following) index ∙ others parts.1 index (omega (arith, within))
 
 same_character : (characters : Bytes) → AreKnown characters → is_padded characters ≡ true → (index : ℕ) → index < length characters
     → character_at (bare_name characters) index ≡ slice_index characters index
 same_character [] known padded index within = absurd (omega (arith, within))
-same_character (c ∷ cs) known padded index within =
-    same_by c cs (c == 32) refl known.0 padded (λ p. same_character cs known.1 p) index within
+same_character (character ∷ following) known padded index within =
+    same_by character following (character == 32) refl known.0 padded (λ p. same_character following known.1 p) index within
 
 six : (f : ℕ → ℕ) (a b c d e g : ℕ) → f 0 ≡ a → f 1 ≡ b → f 2 ≡ c → f 3 ≡ d → f 4 ≡ e → f 5 ≡ g
     → map f (0 ∷ 1 ∷ 2 ∷ 3 ∷ 4 ∷ 5 ∷ []) ≡ a ∷ b ∷ c ∷ d ∷ e ∷ g ∷ []
@@ -138,20 +138,20 @@ NoPercent character = character ≢ 37
 
 spaces_plain : (characters : Bytes) → are_spaces characters ≡ true → AllByRecursion NoPercent characters
 spaces_plain [] spaces = tt
-spaces_plain (c ∷ cs) spaces =
-    let parts = and_parts (c == 32) (are_spaces cs) spaces in
-    let own : c ≡ 32 = eqb-true c 32 parts.0 in (omega (arith, own), spaces_plain cs parts.1)
+spaces_plain (character ∷ following) spaces =
+    let parts = and_parts (character == 32) (are_spaces following) spaces in
+    let own : character ≡ 32 = eqb-true character 32 parts.0 in (omega (arith, own), spaces_plain following parts.1)
 
-plain_by : (c : ℕ) (cs : Bytes) (b : Bool) → (c == 32) ≡ b → (if b then are_spaces cs else not (c == 37) && is_padded cs) ≡ true
-    → (is_padded cs ≡ true → AllByRecursion NoPercent cs) → AllByRecursion NoPercent (c ∷ cs)
-plain_by c cs true is padded others = let own : c ≡ 32 = eqb-true c 32 is in (omega (arith, own), spaces_plain cs padded)
-plain_by c cs false is padded others =
-    let parts = and_parts (not (c == 37)) (is_padded cs) padded in
-    (eqb-false c 37 (not-true (c == 37) parts.0), others parts.1)
+plain_by : (character : ℕ) (following : Bytes) (b : Bool) → (character == 32) ≡ b → (if b then are_spaces following else not (character == 37) && is_padded following) ≡ true
+    → (is_padded following ≡ true → AllByRecursion NoPercent following) → AllByRecursion NoPercent (character ∷ following)
+plain_by character following true is padded others = let own : character ≡ 32 = eqb-true character 32 is in (omega (arith, own), spaces_plain following padded)
+plain_by character following false is padded others =
+    let parts = and_parts (not (character == 37)) (is_padded following) padded in
+    (eqb-false character 37 (not-true (character == 37) parts.0), others parts.1)
 
 padded_plain : (characters : Bytes) → is_padded characters ≡ true → AllByRecursion NoPercent characters
 padded_plain [] padded = tt
-padded_plain (c ∷ cs) padded = plain_by c cs (c == 32) refl padded (λ p. padded_plain cs p)
+padded_plain (character ∷ following) padded = plain_by character following (character == 32) refl padded (λ p. padded_plain following p)
 
 three_plain : (a b c : ℕ) → NoPercent a → NoPercent b → NoPercent c → HasNoPercent (a ∷ b ∷ c ∷ [])
 three_plain a b c p q r zero d within = p
@@ -180,11 +180,11 @@ counter_by (byte ∷ []) is = and_true (byte == 46) is
     and_true false e = refl
 counter_by (byte ∷ next ∷ text) is = refl
 
-name_text_by : (c : ℕ) (cs : Bytes) (b : Bool) → (c == 32) ≡ b → not b ≡ true → not (is_digit c) ≡ true
-    → list_all is_name_character (if b then [] else c ∷ bare_name cs) ≡ true → is_name_text (if b then [] else c ∷ bare_name cs) ≡ true
-name_text_by c cs true is no_space no_digit named = absurd (both_ways false refl no_space)
-name_text_by c cs false is no_space no_digit named =
-    and_from (not (is_digit c)) (list_all is_name_character (c ∷ bare_name cs)) no_digit named
+name_text_by : (character : ℕ) (following : Bytes) (b : Bool) → (character == 32) ≡ b → not b ≡ true → not (is_digit character) ≡ true
+    → list_all is_name_character (if b then [] else character ∷ bare_name following) ≡ true → is_name_text (if b then [] else character ∷ bare_name following) ≡ true
+name_text_by character following true is no_space no_digit named = absurd (both_ways false refl no_space)
+name_text_by character following false is no_space no_digit named =
+    and_from (not (is_digit character)) (list_all is_name_character (character ∷ bare_name following)) no_digit named
 
 -- what a definable name is
 pub record IsPlain (characters : Bytes) : Type 0 where
@@ -215,10 +215,10 @@ can_spell symbol can =
     let name : Name = symbol.name in
     let text : Bytes = name_text name in
     let plain = plain_of text can.definable in
-    let c : ℕ = character_of (name.0 / 1600) in
+    let character : ℕ = character_of (name.0 / 1600) in
     record {
       alone = can.alone;
-      is_name = name_text_by c (character_of (name.0 / 40 % 40) ∷ character_of (name.0 % 40) ∷ characters_of name.1) (c == 32) refl plain.first
+      is_name = name_text_by character (character_of (name.0 / 40 % 40) ∷ character_of (name.0 % 40) ∷ characters_of name.1) (character == 32) refl plain.first
           plain.no_digit (named_characters text (name_known name can.is_name) plain.padded);
       spelled =
           ap (λ (b : Bool). if b then Some Counter else option_map Ordinary (name_of (six_of (bare_name text)))) (no_counter (bare_name text) plain.free)
