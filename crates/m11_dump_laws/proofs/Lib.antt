@@ -12,3 +12,4 @@ pub mod MemoryDefined
 pub mod MadeNames
 pub mod AllSymbols
 pub mod WellFormed
+pub mod MemoryCells

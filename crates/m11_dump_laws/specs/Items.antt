@@ -3,6 +3,7 @@
 -- "Current location counter".)
 use Rattle.std.specs.Prelude.{ℕ, ◌+◌, ◌<◌, ◌≤◌, ◌==◌, if◌then◌else◌, List, [], ◌∷◌, ◌++◌, length, Option, Some, None}
 use Rattle.std.specs.List.{AllByRecursion, flat_map}
+use Rattle.m11_base.specs.Devices.{Bytes}
 use Rattle.m11_base.specs.Rad50.{IsName}
 use Rattle.m11_base_disassembly.specs.declared.symbols.Symbol.{Symbol}
 use Rattle.m11_asm_dump_laws.specs.Items.{Item, Labelled, Assigned, MovedTo, Shows, ShowsByte}
@@ -73,6 +74,10 @@ IsCell (Some byte) = byte < 256
 pub record AreCells (cells : Cells) : Type 0 where
   pub few : length cells ≤ 65536
   pub bytes : AllByRecursion IsCell cells
+
+-- each block's data are bytes
+abbrev pub AreBlocks : List (ℕ × Bytes) → Type 0
+AreBlocks blocks = AllByRecursion (λ block. AllByRecursion (λ byte. byte < 256) block.1) blocks
 
 -- a name has six characters, and its value is a word
 abbrev pub IsGiven : Symbol → Type 0

@@ -7,4 +7,4 @@ mod items;
 mod pieces;
 
 pub use items::{the_items_are_well_formed, the_source_is_the_text_of_its_items};
-pub use pieces::the_pieces_are_the_bytes_of_memory;
+pub use pieces::{memory_has_cells, the_pieces_are_the_bytes_of_memory};

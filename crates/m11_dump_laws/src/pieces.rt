@@ -1,14 +1,20 @@
-//! The bytes that a source of memory stores.
+//! The bytes of memory, and those that a source of it stores.
 
 ghost use Rattle.std.specs.Prelude.{◌≡◌, ℕ, List, map, None, slice_index_or};
+ghost use Rattle.m11_base.specs.Devices.{Bytes};
 ghost use Rattle.m11_base.specs.Names.{absolute_name};
 ghost use Rattle.m11_base_disassembly.specs.declared.symbols.Symbol.{Symbol};
 ghost use Rattle.m11_cpu_laws.specs.Image.{byte_of};
 ghost use Rattle.m11_cli_image.specs.Addresses.{Addresses};
 ghost use Rattle.m11_cli_image.specs.Pieces.{placed};
 ghost use Rattle.m11_asm_dump_laws.specs.Items.{pieces_of};
-ghost use Rattle.m11_dump_source.specs.Memory.{Cells};
-ghost use Rattle.m11_dump_laws.specs.Items.{AreCells, items_of};
+ghost use Rattle.m11_dump_source.specs.Memory.{Cells, memory_of};
+ghost use Rattle.m11_dump_laws.specs.Items.{AreBlocks, AreCells, items_of};
+
+/// Memory after the blocks of a tape is what the laws of its source ask for: 65,536 cells at most, each with a byte or none.
+pub fn memory_has_cells()
+    ensures { (blocks : List (ℕ × Bytes)) → AreBlocks blocks → AreCells (memory_of blocks) }
+{}
 
 /// What the items of memory put into a program whose absolute section begins at 0 are the bytes of memory: at each address that has a byte
 /// just this one, and none at the others.
