@@ -207,7 +207,8 @@ turned : (R : Symbol → Symbol → Type 0) (one other : List Symbol) → AllByR
 turned R [] other all = tt
 turned R (x ∷ one) other all = (
   all_by (λ y. AllByRecursion (λ z. R z y) (x ∷ one)) (R x) other (λ y these. these.0) all,
-  turned R one other (all_by (λ y. AllByRecursion (λ z. R z y) (x ∷ one)) (λ y. AllByRecursion (λ z. R z y) one) other (λ y these. these.1) all),
+  turned R one other
+      (all_by (λ y. AllByRecursion (λ z. R z y) (x ∷ one)) (λ y. AllByRecursion (λ z. R z y) one) other (λ y these. these.1) all),
 )
 
 pub symbols_usable : (kept : List Symbol) (start : ℕ) (lines : List Line) → AreUsable kept → AreRising 0 lines

@@ -92,7 +92,8 @@ numbers_apart one other false is =
 
 pub same_names : (one other : Name) → is_same_name one other ≡ is_same_name other one
 same_names one other =
-    ap₂ (λ a b. a && b) (sym (numbers_apart one.0 other.0 (one.0 == other.0) refl)) (sym (numbers_apart one.1 other.1 (one.1 == other.1) refl))
+    ap₂ (λ a b. a && b) (sym (numbers_apart one.0 other.0 (one.0 == other.0) refl))
+    (sym (numbers_apart one.1 other.1 (one.1 == other.1) refl))
 
 pub distinct_both : (one other : List Symbol) → AreDistinct one → AreDistinct other
     → AllByRecursion (λ symbol. AllByRecursion (IsApart symbol) other) one → AreDistinct (one ++ other)

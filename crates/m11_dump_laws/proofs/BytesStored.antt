@@ -240,7 +240,8 @@ module _ (lies : Piece → ℕ × Bytes) (fixed : LiesFixed lies) (at : ℕ) whe
     cells_found address zero (Some byte ∷ cells) all fits here =
         line_found address byte cells all fits here (lines_from (address + 1) (size address byte cells all - 1) cells)
         ∙ ap (λ o. option_or o (within address (bytes address byte cells all)))
-        (cells_found (address + 1) (size address byte cells all - 1) cells all.1 (omega (arith, fits)) (address + size address byte cells all))
+        (cells_found (address + 1) (size address byte cells all - 1) cells all.1 (omega (arith, fits))
+        (address + size address byte cells all))
         ∙ both_found address byte cells all
 
   -- the pieces of the items of memory have a byte at an address if memory has one there, and it is that one

@@ -79,15 +79,16 @@ AreHigh characters = AllByRecursion (λ character. 48 ≤ character) characters
 
 high_padded : (characters : Bytes) → AreHigh characters → is_padded characters ≡ true
 high_padded [] high = refl
-high_padded (character ∷ following) high =
+high_padded (character ∷ rest) high =
     let percent : not (character == 37) ≡ true = ap not (ne_eqb character 37 (λ is. omega (arith, is, high.0))) in
-    ap (λ (b : Bool). if b then are_spaces following else not (character == 37) && is_padded following) (no_blank character high.0)
-    ∙ and_from (not (character == 37)) (is_padded following) percent (high_padded following high.1)
+    ap (λ (b : Bool). if b then are_spaces rest else not (character == 37) && is_padded rest) (no_blank character high.0)
+    ∙ and_from (not (character == 37)) (is_padded rest) percent (high_padded rest high.1)
 
 high_bare : (characters : Bytes) → AreHigh characters → bare_name characters ≡ characters
 high_bare [] high = refl
-high_bare (character ∷ following) high =
-    ap (λ (b : Bool). if b then [] else character ∷ bare_name following) (no_blank character high.0) ∙ ap (λ (l : Bytes). character ∷ l) (high_bare following high.1)
+high_bare (character ∷ rest) high =
+    ap (λ (b : Bool). if b then [] else character ∷ bare_name rest) (no_blank character high.0)
+    ∙ ap (λ (l : Bytes). character ∷ l) (high_bare rest high.1)
 
 module _ (address : ℕ) where
   abbrev digits : Bytes

@@ -51,36 +51,38 @@ name_known name is =
     )
 
 -- a character that is neither `%` nor a blank stands for itself
-itself : (character : ℕ) → (character == 37) ≡ false → (character == 32) ≡ false → is_known character ≡ true → (is_name_character character ≡ true) × (folded character ≡ character)
+itself : (character : ℕ) → (character == 37) ≡ false → (character == 32) ≡ false → is_known character ≡ true
+    → (is_name_character character ≡ true) × (folded character ≡ character)
 itself character percent space known =
     let own : Bool = is_name_character character && folded character == character in
     let left : ((character == 32) || own) ≡ true = ap (λ (b : Bool). b || ((character == 32) || own)) (sym percent) ∙ known in
     let last : own ≡ true = ap (λ (b : Bool). b || own) (sym space) ∙ left in
-    let parts = and_parts (is_name_character character) (folded character == character) last in (parts.0, eqb-true (folded character) character parts.1)
+    let parts = and_parts (is_name_character character) (folded character == character) last in
+    (parts.0, eqb-true (folded character) character parts.1)
 
 -- ---- a name up to its first space
 
-named_by : (character : ℕ) (following : Bytes) (b : Bool) → (character == 32) ≡ b → is_known character ≡ true
-    → (if b then are_spaces following else not (character == 37) && is_padded following) ≡ true
-    → (is_padded following ≡ true → list_all is_name_character (bare_name following) ≡ true)
-    → list_all is_name_character (if b then [] else character ∷ bare_name following) ≡ true
-named_by character following true is known padded others = refl
-named_by character following false is known padded others =
-    let parts = and_parts (not (character == 37)) (is_padded following) padded in
+named_by : (character : ℕ) (rest : Bytes) (b : Bool) → (character == 32) ≡ b → is_known character ≡ true
+    → (if b then are_spaces rest else not (character == 37) && is_padded rest) ≡ true
+    → (is_padded rest ≡ true → list_all is_name_character (bare_name rest) ≡ true)
+    → list_all is_name_character (if b then [] else character ∷ bare_name rest) ≡ true
+named_by character rest true is known padded others = refl
+named_by character rest false is known padded others =
+    let parts = and_parts (not (character == 37)) (is_padded rest) padded in
     let own = itself character (not-true (character == 37) parts.0) is known in
-    and_from (is_name_character character) (list_all is_name_character (bare_name following)) own.0 (others parts.1)
+    and_from (is_name_character character) (list_all is_name_character (bare_name rest)) own.0 (others parts.1)
 
 named_characters : (characters : Bytes) → AreKnown characters → is_padded characters ≡ true
     → list_all is_name_character (bare_name characters) ≡ true
 named_characters [] known padded = refl
-named_characters (character ∷ following) known padded =
-    named_by character following (character == 32) refl known.0 padded (λ p. named_characters following known.1 p)
+named_characters (character ∷ rest) known padded =
+    named_by character rest (character == 32) refl known.0 padded (λ p. named_characters rest known.1 p)
 
-space_at : (following : Bytes) → are_spaces following ≡ true → (index : ℕ) → index < length following → slice_index following index ≡ 32
+space_at : (rest : Bytes) → are_spaces rest ≡ true → (index : ℕ) → index < length rest → slice_index rest index ≡ 32
 space_at [] spaces index within = absurd (omega (arith, within))
-space_at (character ∷ following) spaces zero within = eqb-true character 32 (and_parts (character == 32) (are_spaces following) spaces).0
-space_at (character ∷ following) spaces (suc index) within =
-    space_at following (and_parts (character == 32) (are_spaces following) spaces).1 index (omega (arith, within))
+space_at (character ∷ rest) spaces zero within = eqb-true character 32 (and_parts (character == 32) (are_spaces rest) spaces).0
+space_at (character ∷ rest) spaces (suc index) within =
+    space_at rest (and_parts (character == 32) (are_spaces rest) spaces).1 index (omega (arith, within))
 
 past : (index : ℕ) → character_at [] index ≡ 32
 past index = ap (λ (b : Bool). if b then folded 0 else 32) (le-ltb index 0 (omega arith))
@@ -97,25 +99,26 @@ lt_next one other = elim (cases_lt one other) [
 next_at : (character : ℕ) (text : Bytes) (index : ℕ) → character_at (character ∷ text) (suc index) ≡ character_at text index
 next_at character text index = ap (λ (b : Bool). if b then folded (slice_index text index) else 32) (lt_next index (length text))
 
-same_by : (character : ℕ) (following : Bytes) (b : Bool) → (character == 32) ≡ b → is_known character ≡ true
-    → (if b then are_spaces following else not (character == 37) && is_padded following) ≡ true
-    → (is_padded following ≡ true → (index : ℕ) → index < length following → character_at (bare_name following) index ≡ slice_index following index)
-    → (index : ℕ) → index < suc (length following) → character_at (if b then [] else character ∷ bare_name following) index ≡ slice_index (character ∷ following) index
-same_by character following true is known padded others zero within = past 0 ∙ sym (eqb-true character 32 is)
-same_by character following true is known padded others (suc index) within =
-    past (suc index) ∙ sym (space_at following padded index (omega (arith, within)))
-same_by character following false is known padded others zero within =
-    let parts = and_parts (not (character == 37)) (is_padded following) padded in
-    first_at character (bare_name following) ∙ (itself character (not-true (character == 37) parts.0) is known).1
-same_by character following false is known padded others (suc index) within =
-    let parts = and_parts (not (character == 37)) (is_padded following) padded in
-    next_at character (bare_name following) index ∙ others parts.1 index (omega (arith, within))
+same_by : (character : ℕ) (rest : Bytes) (b : Bool) → (character == 32) ≡ b → is_known character ≡ true
+    → (if b then are_spaces rest else not (character == 37) && is_padded rest) ≡ true
+    → (is_padded rest ≡ true → (index : ℕ) → index < length rest → character_at (bare_name rest) index ≡ slice_index rest index)
+    → (index : ℕ) → index < suc (length rest)
+    → character_at (if b then [] else character ∷ bare_name rest) index ≡ slice_index (character ∷ rest) index
+same_by character rest true is known padded others zero within = past 0 ∙ sym (eqb-true character 32 is)
+same_by character rest true is known padded others (suc index) within =
+    past (suc index) ∙ sym (space_at rest padded index (omega (arith, within)))
+same_by character rest false is known padded others zero within =
+    let parts = and_parts (not (character == 37)) (is_padded rest) padded in
+    first_at character (bare_name rest) ∙ (itself character (not-true (character == 37) parts.0) is known).1
+same_by character rest false is known padded others (suc index) within =
+    let parts = and_parts (not (character == 37)) (is_padded rest) padded in
+    next_at character (bare_name rest) index ∙ others parts.1 index (omega (arith, within))
 
 same_character : (characters : Bytes) → AreKnown characters → is_padded characters ≡ true → (index : ℕ) → index < length characters
     → character_at (bare_name characters) index ≡ slice_index characters index
 same_character [] known padded index within = absurd (omega (arith, within))
-same_character (character ∷ following) known padded index within =
-    same_by character following (character == 32) refl known.0 padded (λ p. same_character following known.1 p) index within
+same_character (character ∷ rest) known padded index within =
+    same_by character rest (character == 32) refl known.0 padded (λ p. same_character rest known.1 p) index within
 
 six : (f : ℕ → ℕ) (a b c d e g : ℕ) → f 0 ≡ a → f 1 ≡ b → f 2 ≡ c → f 3 ≡ d → f 4 ≡ e → f 5 ≡ g
     → map f (0 ∷ 1 ∷ 2 ∷ 3 ∷ 4 ∷ 5 ∷ []) ≡ a ∷ b ∷ c ∷ d ∷ e ∷ g ∷ []
@@ -138,20 +141,22 @@ NoPercent character = character ≢ 37
 
 spaces_plain : (characters : Bytes) → are_spaces characters ≡ true → AllByRecursion NoPercent characters
 spaces_plain [] spaces = tt
-spaces_plain (character ∷ following) spaces =
-    let parts = and_parts (character == 32) (are_spaces following) spaces in
-    let own : character ≡ 32 = eqb-true character 32 parts.0 in (omega (arith, own), spaces_plain following parts.1)
+spaces_plain (character ∷ rest) spaces =
+    let parts = and_parts (character == 32) (are_spaces rest) spaces in
+    let own : character ≡ 32 = eqb-true character 32 parts.0 in (omega (arith, own), spaces_plain rest parts.1)
 
-plain_by : (character : ℕ) (following : Bytes) (b : Bool) → (character == 32) ≡ b → (if b then are_spaces following else not (character == 37) && is_padded following) ≡ true
-    → (is_padded following ≡ true → AllByRecursion NoPercent following) → AllByRecursion NoPercent (character ∷ following)
-plain_by character following true is padded others = let own : character ≡ 32 = eqb-true character 32 is in (omega (arith, own), spaces_plain following padded)
-plain_by character following false is padded others =
-    let parts = and_parts (not (character == 37)) (is_padded following) padded in
+plain_by : (character : ℕ) (rest : Bytes) (b : Bool) → (character == 32) ≡ b
+    → (if b then are_spaces rest else not (character == 37) && is_padded rest) ≡ true
+    → (is_padded rest ≡ true → AllByRecursion NoPercent rest) → AllByRecursion NoPercent (character ∷ rest)
+plain_by character rest true is padded others =
+    let own : character ≡ 32 = eqb-true character 32 is in (omega (arith, own), spaces_plain rest padded)
+plain_by character rest false is padded others =
+    let parts = and_parts (not (character == 37)) (is_padded rest) padded in
     (eqb-false character 37 (not-true (character == 37) parts.0), others parts.1)
 
 padded_plain : (characters : Bytes) → is_padded characters ≡ true → AllByRecursion NoPercent characters
 padded_plain [] padded = tt
-padded_plain (character ∷ following) padded = plain_by character following (character == 32) refl padded (λ p. padded_plain following p)
+padded_plain (character ∷ rest) padded = plain_by character rest (character == 32) refl padded (λ p. padded_plain rest p)
 
 three_plain : (a b c : ℕ) → NoPercent a → NoPercent b → NoPercent c → HasNoPercent (a ∷ b ∷ c ∷ [])
 three_plain a b c p q r zero d within = p
@@ -180,11 +185,12 @@ counter_by (byte ∷ []) is = and_true (byte == 46) is
     and_true false e = refl
 counter_by (byte ∷ next ∷ text) is = refl
 
-name_text_by : (character : ℕ) (following : Bytes) (b : Bool) → (character == 32) ≡ b → not b ≡ true → not (is_digit character) ≡ true
-    → list_all is_name_character (if b then [] else character ∷ bare_name following) ≡ true → is_name_text (if b then [] else character ∷ bare_name following) ≡ true
-name_text_by character following true is no_space no_digit named = absurd (both_ways false refl no_space)
-name_text_by character following false is no_space no_digit named =
-    and_from (not (is_digit character)) (list_all is_name_character (character ∷ bare_name following)) no_digit named
+name_text_by : (character : ℕ) (rest : Bytes) (b : Bool) → (character == 32) ≡ b → not b ≡ true → not (is_digit character) ≡ true
+    → list_all is_name_character (if b then [] else character ∷ bare_name rest) ≡ true
+    → is_name_text (if b then [] else character ∷ bare_name rest) ≡ true
+name_text_by character rest true is no_space no_digit named = absurd (both_ways false refl no_space)
+name_text_by character rest false is no_space no_digit named =
+    and_from (not (is_digit character)) (list_all is_name_character (character ∷ bare_name rest)) no_digit named
 
 -- what a definable name is
 pub record IsPlain (characters : Bytes) : Type 0 where
@@ -218,10 +224,11 @@ can_spell symbol can =
     let character : ℕ = character_of (name.0 / 1600) in
     record {
       alone = can.alone;
-      is_name = name_text_by character (character_of (name.0 / 40 % 40) ∷ character_of (name.0 % 40) ∷ characters_of name.1) (character == 32) refl plain.first
-          plain.no_digit (named_characters text (name_known name can.is_name) plain.padded);
+      is_name = name_text_by character (character_of (name.0 / 40 % 40) ∷ character_of (name.0 % 40) ∷ characters_of name.1)
+          (character == 32) refl plain.first plain.no_digit (named_characters text (name_known name can.is_name) plain.padded);
       spelled =
-          ap (λ (b : Bool). if b then Some Counter else option_map Ordinary (name_of (six_of (bare_name text)))) (no_counter (bare_name text) plain.free)
+          ap (λ (b : Bool). if b then Some Counter else option_map Ordinary (name_of (six_of (bare_name text))))
+          (no_counter (bare_name text) plain.free)
           ∙ ap (λ (t : Bytes). option_map Ordinary (name_of t)) (six_again name can.is_name plain.padded)
           ∙ ap (λ (o : Option Name). option_map Ordinary o) (name_again name can.is_name plain.padded);
     }
