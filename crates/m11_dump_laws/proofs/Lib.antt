@@ -13,3 +13,4 @@ pub mod MadeNames
 pub mod AllSymbols
 pub mod WellFormed
 pub mod MemoryCells
+pub mod BlocksStored

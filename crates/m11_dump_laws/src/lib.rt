@@ -8,7 +8,9 @@ mod items;
 mod pieces;
 
 pub use items::{the_items_are_well_formed, the_source_is_the_text_of_its_items};
-pub use pieces::{memory_has_cells, the_pieces_are_the_bytes_of_memory};
+pub use pieces::{
+    memory_has_cells, memory_has_the_bytes_of_its_blocks, the_pieces_are_the_bytes_of_memory,
+};
 
 // The memory that it defines, and that a chain leaves.
 mod memory;

@@ -1,6 +1,6 @@
 //! The bytes of memory, and those that a source of it stores.
 
-ghost use Rattle.std.specs.Prelude.{◌≡◌, ℕ, List, map, None, slice_index_or};
+ghost use Rattle.std.specs.Prelude.{◌≡◌, ◌<◌, ℕ, List, map, None, slice_index_or};
 ghost use Rattle.m11_base.specs.Devices.{Bytes};
 ghost use Rattle.m11_base.specs.Names.{absolute_name};
 ghost use Rattle.m11_base_disassembly.specs.declared.symbols.Symbol.{Symbol};
@@ -14,6 +14,13 @@ ghost use Rattle.m11_dump_laws.specs.Items.{AreBlocks, AreCells, items_of};
 /// Memory after the blocks of a tape is what the laws of its source ask for: 65,536 cells at most, each with a byte or none.
 pub fn memory_has_cells()
     ensures { (blocks : List (ℕ × Bytes)) → AreBlocks blocks → AreCells (memory_of blocks) }
+{}
+
+/// Memory has at each address the byte that the blocks of the tape have there, the last one's if several have one.
+#[tactic(auto, using(crate::proofs::BlocksStored::memory_stored))]
+pub fn memory_has_the_bytes_of_its_blocks()
+    ensures { (blocks : List (ℕ × Bytes)) (address : ℕ) → address < 65536
+        → slice_index_or (memory_of blocks) address None ≡ byte_of blocks address }
 {}
 
 /// What the items of memory put into a program whose absolute section begins at 0 are the bytes of memory: at each address that has a byte
