@@ -51,10 +51,11 @@ use Rattle.m11_asm_dump_laws.proofs.Beginnings.{equals_begins, equals_stops}
 use Rattle.m11_asm_dump_laws.proofs.Digits.{text_octal}
 use Rattle.m11_asm_dump_laws.proofs.FirstTokens.{digits_begin}
 use Rattle.m11_asm_dump_laws.proofs.Known.{table_knows}
-use Rattle.m11_asm_dump_laws.proofs.LabelLines.{HasName, name_of_symbol, some_length}
+use Rattle.m11_asm_dump_laws.proofs.LabelLines.{HasName, name_of_symbol}
 use Rattle.m11_asm_dump_laws.proofs.LineEnds.{kept_to_end}
 use Rattle.m11_asm_dump_laws.proofs.OperandTexts.{digits_kept}
 use Rattle.m11_asm_dump_laws.proofs.Quantities.{number_value}
+use Rattle.m11_asm_dump_laws.proofs.ReadLines.{some_name}
 use Rattle.m11_asm_dump_laws.proofs.ReadStatements.{either_same}
 use Rattle.m11_asm_dump_laws.proofs.Terms.{EndTerm, end_read, expression_read, nothing_skipped}
 use Rattle.m11_asm_dump_laws.proofs.Tokens.{between, name_begins, no_token, none_stops, past, token_at, token_first}
@@ -129,7 +130,7 @@ module _ (line name : Bytes) (number : ℕ) (at : line ≡ name ++ 0o75 ∷ numb
 
   pub target_is : (found : Option Name) → name_of (six_of name) ≡ found
       → target line (record { start = 0; end = here }) ≡ found
-  target_is found is = ap (λ t. name_of (six_of t)) (between line name (0o75 ∷ digits) 0 at (some_length name is_name)) ∙ is
+  target_is found is = ap (λ t. name_of (six_of t)) (between line name (0o75 ∷ digits) 0 at (some_name name is_name)) ∙ is
 
   pub acts : (given : UnfoldedLine) (found : Option Name) → name_of (six_of name) ≡ found
       → operation_of given.arguments line assignment_body ≡ does (Assign found false (number_written number)) 0

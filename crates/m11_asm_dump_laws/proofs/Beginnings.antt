@@ -37,9 +37,8 @@ use Rattle.m11_asm_rules.specs.Operations.{operation_of}
 use Rattle.m11_asm_rules.specs.Relocations.{is_here}
 use Rattle.m11_asm_rules.specs.Sections.{of_absolute}
 use Rattle.m11_asm_rules.specs.Tables.{Table, firm_table, first_table, location, section_name}
-use Rattle.m11_asm_dump_laws.specs.Dumps.{HasCounter}
 use Rattle.m11_asm_dump_laws.specs.Knowledge.{ReadsAsMeant}
-use Rattle.m11_asm_dump_laws.specs.Lines.{IsLine}
+use Rattle.m11_asm_dump_laws.specs.Lines.{HasCounter, IsLine}
 use Rattle.m11_asm_dump_laws.specs.Operands.{number_written}
 use Rattle.m11_asm_dump_laws.proofs.ArgumentTexts.{tab_kept, token_kept}
 use Rattle.m11_asm_dump_laws.proofs.Assembled.{Yields, operator_ending, yields}
@@ -104,10 +103,6 @@ absolute_section = refl
 
 pub asect_reads : (map_ : Map) (given : UnfoldedLine) → IsLine given (codes "\t.ASECT") → ReadsAsMeant (after_line map_ first_table given)
 asect_reads map_ given this = subst ReadsAsMeant (sym (asect_yields map_ given this).after) absolute_reads
-
-pub asect_counted : (map_ : Map) (given : UnfoldedLine) → IsLine given (codes "\t.ASECT") → HasCounter (after_line map_ first_table given)
-asect_counted map_ given this =
-    let P : Table → Type 0 = λ t. HasCounter t in subst P (sym (asect_yields map_ given this).after) absolute_counts
 
 -- ---- `.=` with an address
 

@@ -36,15 +36,14 @@ use Rattle.m11_asm_rules.specs.declared.definitions.Definition.{Definition}
 use Rattle.m11_asm_rules.specs.declared.definitions.Key.TheVariants.{Named}
 use Rattle.m11_asm_rules.specs.declared.definitions.Standing.{Standing}
 use Rattle.m11_asm_rules.specs.declared.definitions.Standing.TheVariants.{Known}
-use Rattle.m11_asm_dump_laws.specs.Dumps.{AreRead, HasCounter}
 use Rattle.m11_asm_dump_laws.specs.Items.{AreDistinct, AreSound, Assigned, IsAmong, IsNoRegister, Item, Labelled, MovedTo, Shows, ShowsByte, after_item, all_defined, contents_in, defined_in, item_text, pieces_of, symbol_text, texts_of}
 use Rattle.m11_asm_dump_laws.specs.Knowledge.{AtMostDefines, HasValue, IsSpelled, ReadsAsMeant, register_name, standing_of}
-use Rattle.m11_asm_dump_laws.specs.Lines.{Assembles, IsLine}
+use Rattle.m11_asm_dump_laws.specs.Lines.{AreRead, Assembles, HasCounter, IsLine}
 use Rattle.m11_asm_dump_laws.specs.Texts.{line_text}
 use Rattle.m11_asm_dump_laws.proofs.Addresses.{bare_short}
 use Rattle.m11_asm_dump_laws.proofs.AssignLines.{IsKnownIn, assigned_after, assigned_pieces}
 use Rattle.m11_asm_dump_laws.proofs.Beginnings.{set_yields}
-use Rattle.m11_asm_dump_laws.proofs.Consecutive.{counter_is, flags_in, pieces_in, still_counted, still_reads}
+use Rattle.m11_asm_dump_laws.proofs.PlacedLines.{counter_is, flags_in, pieces_in, still_counted, still_reads}
 use Rattle.m11_asm_dump_laws.proofs.Digits.{number_width}
 use Rattle.m11_asm_dump_laws.proofs.DumpedLines.{line_assembled}
 use Rattle.m11_asm_dump_laws.proofs.LabelLines.{label_defines}

@@ -23,11 +23,10 @@ use Rattle.m11_asm_rules.specs.Placements.{after_lines, placed_from}
 use Rattle.m11_asm_rules.specs.Sources.{line_transfer, transfer_after, transfer_by}
 use Rattle.m11_asm_rules.specs.Tables.{Table, location}
 use Rattle.m11_asm_rules.specs.declared.definitions.Key.TheVariants.{Named}
-use Rattle.m11_asm_dump_laws.specs.Dumps.{AreRead}
 use Rattle.m11_asm_dump_laws.specs.Items.{AreDistinct, AreSound, Assigned, IsAmong, IsNoRegister, IsSound, Item, Labelled, MovedTo, Shows, ShowsByte, after_item, all_defined, contents_in, defined_in, item_text, pieces_of, texts_of}
 use Rattle.m11_asm_dump_laws.specs.Knowledge.{HasValue, IsSpelled}
-use Rattle.m11_asm_dump_laws.specs.Lines.{IsLine}
-use Rattle.m11_asm_dump_laws.proofs.Consecutive.{flags_in, pieces_in}
+use Rattle.m11_asm_dump_laws.specs.Lines.{AreRead, IsLine}
+use Rattle.m11_asm_dump_laws.proofs.PlacedLines.{flags_in, pieces_in}
 use Rattle.m11_asm_dump_laws.proofs.ItemsPlaced.{Does, Fits, Leads, IsDefinedIn, IsFinal, IsNewIn, StandsAt, assigned_leads, byte_leads, defined_fits, each, joined, labelled_leads, members, moved_leads, new_fits, new_stays, words_lead}
 
 -- ---- lines that set no transfer address

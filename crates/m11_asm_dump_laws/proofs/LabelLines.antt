@@ -43,6 +43,7 @@ use Rattle.m11_asm_dump_laws.specs.Knowledge.{IsSpelled}
 use Rattle.m11_asm_dump_laws.specs.Operands.{is_name_text}
 use Rattle.m11_asm_dump_laws.proofs.ArgumentTexts.{token_kept}
 use Rattle.m11_asm_dump_laws.proofs.LineEnds.{kept_to_end}
+use Rattle.m11_asm_dump_laws.proofs.ReadLines.{some_name}
 use Rattle.m11_asm_dump_laws.proofs.Tokens.{Begins, Stops, between, name_begins, no_token, past, token_at, token_first}
 use Rattle.m11_asm_dump_laws.proofs.Widths.{IsWhole}
 
@@ -152,10 +153,6 @@ pub record Defines (map_ : Map) (table : Table) (given : UnfoldedLine) (name : N
   pub after : after_line map_ table given ≡ with_block (with_definition (Named name) (labelled table) table)
   pub transfer : line_transfer map_ table given ≡ None
 
-pub some_length : (name : Bytes) → is_name_text name ≡ true → 0 < length name
-some_length [] is = absurd (false≢true is)
-some_length (byte ∷ name) is = omega arith
-
 module _ (map_ : Map) (table : Table) (given : UnfoldedLine) (symbol : Symbol) (is : IsSpelled symbol)
     (this : IsWhole given (bare_name (name_text symbol.name) ++ 0o72 ∷ []))
     (new : is_defined (Named symbol.name) table.definitions ≡ false) where
@@ -179,7 +176,7 @@ module _ (map_ : Map) (table : Table) (given : UnfoldedLine) (symbol : Symbol) (
 
   name_is : label_name line one ≡ Some symbol.name
   name_is =
-      ap (λ t. name_of (six_of t)) (between line text (0o72 ∷ []) 0 this.text (some_length text has.is_text)) ∙ has.name
+      ap (λ t. name_of (six_of t)) (between line text (0o72 ∷ []) 0 this.text (some_name text has.is_text)) ∙ has.name
 
   -- the table with the name defined here
   abbrev defined : Table

@@ -21,11 +21,8 @@ pub mod Assembled
 pub mod ReadLines
 pub mod ReadData
 pub mod DumpedLines
-pub mod Consecutive
-pub mod WholeSources
 pub mod LeftAlone
 pub mod PlainSources
-pub mod Example
 pub mod Addresses
 pub mod FirstTokens
 pub mod LabelLines
@@ -37,3 +34,4 @@ pub mod EndedSources
 pub mod ItemsLeft
 pub mod WholeItems
 pub mod PlainTexts
+pub mod PlacedLines

@@ -33,13 +33,12 @@ use Rattle.m11_asm_rules.specs.Sources.{transfer_after}
 use Rattle.m11_asm_rules.specs.Tables.{Table, firm_table, first_table, location}
 use Rattle.m11_asm_rules.specs.declared.definitions.Definition.{Definition}
 use Rattle.m11_asm_rules.specs.declared.definitions.Key.TheVariants.{Named}
-use Rattle.m11_asm_dump_laws.specs.Dumps.{AreRead}
 use Rattle.m11_asm_dump_laws.specs.Items.{AreDistinct, AreWellFormed, AssembleAs, IsNoRegister, Item, all_defined, end_text, pieces_of, source_of, start_of, texts_of}
 use Rattle.m11_asm_dump_laws.specs.Knowledge.{IsSpelled, KnowsNames, ReadsAsMeant, register_name}
-use Rattle.m11_asm_dump_laws.specs.Lines.{IsLine}
+use Rattle.m11_asm_dump_laws.specs.Lines.{AreRead, IsLine}
 use Rattle.m11_asm_dump_laws.proofs.Assembled.{Yields}
 use Rattle.m11_asm_dump_laws.proofs.Beginnings.{absolute_counts, absolute_reads, absolute_section, absolute_table, asect_yields}
-use Rattle.m11_asm_dump_laws.proofs.Consecutive.{flags_in, pieces_in}
+use Rattle.m11_asm_dump_laws.proofs.PlacedLines.{flags_in, flags_zero, pieces_in}
 use Rattle.m11_asm_dump_laws.proofs.EndLines.{EndsWith, end_ends, end_short}
 use Rattle.m11_asm_dump_laws.proofs.EndedSources.{ended_source}
 use Rattle.m11_asm_dump_laws.proofs.ItemsLeft.{all_left}
@@ -48,7 +47,6 @@ use Rattle.m11_asm_dump_laws.proofs.ItemsWalked.{Walked, after_parts, flags_part
 use Rattle.m11_asm_dump_laws.proofs.Known.{table_knows}
 use Rattle.m11_asm_dump_laws.proofs.PlainSources.{IsAlone, read_by}
 use Rattle.m11_asm_dump_laws.proofs.Widths.{IsWhole, whole_line}
-use Rattle.m11_asm_dump_laws.proofs.WholeSources.{flags_zero}
 
 -- ---- a map that has the value of each symbol
 

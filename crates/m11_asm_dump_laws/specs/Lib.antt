@@ -3,4 +3,3 @@ pub mod Operands
 pub mod Knowledge
 pub mod Lines
 pub mod Items
-pub mod Dumps

@@ -1,5 +1,5 @@
 -- Lines that an assembly turns into contents at the current location. (MACRO-11 Language Reference Manual, "Source program format".)
-use Rattle.std.specs.Prelude.{◌≡◌, false, List, None}
+use Rattle.std.specs.Prelude.{◌≡◌, ◌<◌, false, List, [], ◌∷◌, None, length}
 use Rattle.m11_base.specs.Devices.{Bytes}
 use Rattle.m11_obj.specs.declared.pieces.PieceContent.{PieceContent}
 use Rattle.m11_scan.specs.Line.{line_of}
@@ -16,6 +16,17 @@ use Rattle.m11_asm_rules.specs.Tables.{Table, location, section_name}
 pub record IsLine (given : UnfoldedLine) (written : Bytes) : Type 0 where
   pub line : given.live.line ≡ line_of written
   pub own : given.is_own ≡ false
+
+-- lines with these characters, one after another
+abbrev pub AreRead : List UnfoldedLine → List Bytes → Type 0
+AreRead [] [] = Unit {0}
+AreRead [] (text ∷ texts) = ⊥
+AreRead (given ∷ lines) [] = ⊥
+AreRead (given ∷ lines) (text ∷ texts) = IsLine given text × AreRead lines texts
+
+-- the current section has a location counter
+abbrev pub HasCounter : Table → Type 0
+HasCounter table = table.modes.section < length table.counters
 
 -- a line emits these contents at the current location, has no flag but those of unfolding, moves the counter on by their size, and sets no
 -- transfer address

@@ -9,14 +9,12 @@ mod values;
 pub use operands::operands_are_read_as_they_are_written;
 pub use values::{digits_spell_their_number, numbers_and_registers_have_their_values};
 
-// Whole lines; lines of consecutive words, and sources of them.
-mod dumps;
+// Whole lines.
 mod lines;
 
-pub use dumps::{dumped_words_are_assembled_again, lines_are_assembled_as_their_words};
 pub use lines::a_line_is_assembled_as_its_words;
 
-// Sources of tapes: labels and assignments too.
+// Whole sources, with labels and assignments.
 mod items;
 
 pub use items::a_source_of_items_is_assembled_as_they_say;
