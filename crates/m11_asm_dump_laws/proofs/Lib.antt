@@ -35,3 +35,4 @@ pub mod ItemsLeft
 pub mod WholeItems
 pub mod PlainTexts
 pub mod PlacedLines
+pub mod Example

@@ -11,6 +11,6 @@ returns c bottom words start names cells done given bytes below short chains =
       first = c.live_lines_begin_with_the_absolute_section.ensures.first;
       text = c.the_source_is_the_text_of_its_items.ensures;
       stores = c.the_pieces_are_the_bytes_of_memory.ensures;
-      assembled = c.a_source_of_items_is_assembled_as_they_say.ensures;
+      assembled = c.a_source_of_items_is_assembled_as_they_say.ensures.says;
     })
     names start cells bytes below (c.the_items_are_well_formed.ensures names start cells given bytes) short bottom words done chains
