@@ -1,0 +1,3 @@
+pub mod OneMachine
+pub mod SlicesMade
+pub mod StateBytes
