@@ -1,0 +1,4 @@
+pub mod BlocksRead
+pub mod Carried
+pub mod OneReading
+pub mod Started
