@@ -1,0 +1,202 @@
+// m11 under Node: node m11.mjs asm|link|sim ..., with the words of the native program. It runs the WebAssembly module of m11 on the files of
+// the system. Files to read are given to the module beforehand, so each word that names a file is read; files that the module makes are
+// written when it has ended. A run gets what standard input has at the moment when the program asks, and prints at once.
+
+import { Module, Refused } from "./module.mjs";
+import fs from "node:fs";
+
+const SLICE = 1000000;
+
+// Options of which the value is a file to write.
+const OUTPUTS = { asm: ["o", "l", "output", "listing"], link: ["o", "m", "output", "map"], sim: [] };
+
+// The words that may name files to read: each word, and what is joined to an option; but no value of an option for a file to write.
+function namesIn(command, words) {
+    const outputs = OUTPUTS[command] ?? [];
+    const names = [];
+    for (let at = 0; at < words.length; at++) {
+        const word = words[at];
+        const long = /^--([a-z]+)(?:=(.*))?$/s.exec(word);
+        const short = /^-([a-z])(.*)$/s.exec(word);
+        const option = long?.[1] ?? short?.[1];
+        if (option && outputs.includes(option)) {
+            if (long ? long[2] === undefined : short[2] === "") at++;
+            continue;
+        }
+        names.push(word);
+        if (long?.[2]) names.push(long[2]);
+        if (short?.[2]) names.push(short[2]);
+    }
+    return [...new Set(names)];
+}
+
+// The files of these names that can be read. Two passes need a file that has a position; a run reads its tape once.
+function filesAt(names, isReadOnce) {
+    const files = [];
+    for (const name of names) {
+        try {
+            const kind = fs.statSync(name);
+            if (kind.isFile() || (isReadOnce && !kind.isDirectory())) files.push([name, fs.readFileSync(name)]);
+        } catch {
+            // It isn't a file, or can't be read: the module says so where it matters.
+        }
+    }
+    return files;
+}
+
+// Writes all bytes to a standard stream, whose other end may be slow.
+function write(stream, bytes) {
+    for (let at = 0; at < bytes.length;) {
+        try {
+            at += fs.writeSync(stream, bytes, at);
+        } catch (error) {
+            if (error.code !== "EAGAIN") return false;
+            Atomics.wait(new Int32Array(new SharedArrayBuffer(4)), 0, 0, 5);
+        }
+    }
+    return true;
+}
+
+// Creates the files that a command made, in order, and then fills them. Where one can't be created, those before it stay empty, as the
+// native program leaves them. Returns the first path that can't be created or written, if there is one.
+function keep(made) {
+    const open = [];
+    for (const [path] of made) {
+        try {
+            open.push(fs.openSync(Buffer.from(path), "w"));
+        } catch {
+            return path;
+        }
+    }
+    for (const [at, [path, bytes]] of made.entries()) {
+        try {
+            fs.writeFileSync(open[at], bytes);
+            fs.closeSync(open[at]);
+        } catch {
+            return path;
+        }
+    }
+    return null;
+}
+
+function whole(module, words) {
+    const answer = module.run("m11_command", ["m11", ...words], filesAt(namesIn(words[0], words.slice(1)), false));
+    const refused = keep(answer.made);
+    if (refused !== null) {
+        write(2, Buffer.concat([Buffer.from("?M11 OPEN "), refused, Buffer.from("\n")]));
+        return 3;
+    }
+    write(1, answer.printed);
+    write(2, answer.reported);
+    return answer.status;
+}
+
+// What `sim` is asked for, in words that the module has found to be right.
+function runIn(words) {
+    const asked = { n: "1000000", s: null, k: "28672", tape: null };
+    const long = { steps: "n", start: "s", words: "k" };
+    let isPath = false;
+    for (let at = 0; at < words.length; at++) {
+        const word = words[at];
+        const name = /^--([a-z]+)(?:=(.*))?$/s.exec(word);
+        const letter = /^-([nsk])(.*)$/s.exec(word);
+        if (isPath || (!name && !letter && word !== "--")) asked.tape = word;
+        else if (word === "--") isPath = true;
+        else if (name) asked[long[name[1]]] = name[2] ?? words[++at];
+        else asked[letter[1]] = letter[2] || words[++at];
+    }
+    return { limit: Number(asked.n), start: asked.s === null ? null : parseInt(asked.s, 8), words: Number(asked.k), tape: asked.tape };
+}
+
+// The next bytes of standard input, of which there are at least one; none at its end.
+function read() {
+    const bytes = Buffer.alloc(65536);
+    for (;;) {
+        try {
+            return bytes.subarray(0, fs.readSync(0, bytes));
+        } catch (error) {
+            if (error.code === "EOF") return bytes.subarray(0, 0);
+            if (error.code !== "EAGAIN") throw error;
+            Atomics.wait(new Int32Array(new SharedArrayBuffer(4)), 0, 0, 5);
+        }
+    }
+}
+
+const octal = (word) => word.toString(8).padStart(6, "0");
+
+// The messages at a stop: why the run ended, after how many steps, and the registers.
+function messages(name, steps, state) {
+    const view = new DataView(state.buffer, state.byteOffset);
+    const registers = [0, 1, 2, 3, 4, 5, 6, 7].map((number) => octal(view.getUint16(2 * number, true)));
+    const psw = 32 * state[16] + 16 * state[17] + 8 * state[18] + 4 * state[19] + 2 * state[20] + state[21];
+    const named = ["R0", "R1", "R2", "R3", "R4", "R5", "SP", "PC"].map((each, at) => `${each} ${registers[at]}`);
+    return Buffer.from(`${name} AFTER ${steps} STEPS\n${named.join(" ")} PSW ${octal(psw)}\n`);
+}
+
+// The exit status of a run with this stop.
+const STATUS = { 1: 0, 2: 1, 3: 1, 4: 1, 5: 1, 6: 3, 7: 3 };
+
+// Runs a tape, a slice at a time. Input is read when the program asks for it.
+function simulate(module, words) {
+    const refusal = module.run("m11_command", ["m11", ...words], []);
+    if (refusal.status !== 3) {
+        write(1, refusal.printed);
+        write(2, refusal.reported);
+        return refusal.status;
+    }
+    const asked = runIn(words.slice(1));
+    const files = filesAt([asked.tape], true);
+    const loaded = files.length === 0 ? null : module.load(files[0][1], asked.words);
+    if (loaded === null) {
+        const answer = module.run("m11_command", ["m11", ...words], files);
+        write(2, answer.reported);
+        return answer.status;
+    }
+    let { state } = loaded;
+    const start = asked.start ?? loaded.start;
+    if (start % 2 === 1) {
+        state[14] = state[15] = 0;
+        write(2, messages("NO START", 0, state));
+        return 1;
+    }
+    state[14] = start & 255;
+    state[15] = start >> 8;
+    return go(module, state, asked.limit);
+}
+
+function go(module, first, limit) {
+    let state = first;
+    let typed = new Uint8Array(0);
+    let isOver = false;
+    let steps = 0;
+    for (;;) {
+        const slice = module.goOn(state, typed, isOver, Math.min(SLICE, limit - steps));
+        state = slice.state;
+        steps += slice.steps;
+        typed = typed.subarray(typed.length - slice.unread);
+        if (!write(1, slice.printed)) return ended(7, "OUTPUT FAULT", steps, state);
+        if (slice.stop !== 2 || steps === limit) return ended(slice.stop, slice.name, steps, state);
+        if (slice.waits) {
+            const more = read();
+            isOver = more.length === 0;
+            typed = Buffer.concat([typed, more]);
+        }
+    }
+}
+
+function ended(stop, name, steps, state) {
+    write(2, messages(name, steps, state));
+    return STATUS[stop];
+}
+
+async function main(coded) {
+    const words = process.argv.slice(2);
+    const module = await Module.from(Buffer.from(coded, "base64"));
+    try {
+        process.exitCode = words[0] === "sim" ? simulate(module, words) : whole(module, words);
+    } catch (error) {
+        if (!(error instanceof Refused)) throw error;
+        write(2, Buffer.from(`m11: ${error.message}\n`));
+        process.exitCode = 5;
+    }
+}
