@@ -1,0 +1,132 @@
+// What a build has made, as text: listings, maps, dumps of objects and of the tape, and the lines of the last steps.
+
+import { download } from './archive.js';
+import { byId, make, tabKeys } from './elements.js';
+import { OBJECT, TAPE } from './files.js';
+import { traceLines } from './search.js';
+import { textOf } from './text.js';
+
+/** A text of more characters is shown to here; the rest is in the file. */
+const MOST_SHOWN = 2000000;
+const LAST_STEPS = 200;
+const MOST_TRACED = 20000000;
+
+export class Outputs {
+  constructor(engine, page) {
+    this.engine = engine;
+    this.page = page;
+    this.built = null;
+    this.chosen = new Map();
+    this.panel = 'run';
+    tabKeys(byId('panels'));
+    for (const tab of byId('panels').children) tab.addEventListener('click', () => this.show(tab.dataset.panel));
+    byId('which').addEventListener('change', () => {
+      this.chosen.set(this.panel, byId('which').value);
+      this.draw();
+    });
+    byId('download-one').addEventListener('click', () => this.downloaded());
+  }
+
+  attach(built) {
+    this.built = built;
+    this.draw();
+  }
+
+  show(panel) {
+    this.panel = panel;
+    for (const tab of byId('panels').children) {
+      const isChosen = tab.dataset.panel === panel;
+      tab.setAttribute('aria-selected', String(isChosen));
+      tab.tabIndex = isChosen ? 0 : -1;
+    }
+    document.body.dataset.panel = panel;
+    byId('panel-run').hidden = panel !== 'run';
+    byId('panel-text').hidden = panel === 'run';
+    byId('panel-text').setAttribute('aria-labelledby', `tab-${panel}`);
+    this.draw();
+  }
+
+  // The files that a panel can show.
+  names() {
+    const { built } = this;
+    if (!built) return [];
+    const all = [...built.outputs.keys()];
+    if (this.panel === 'listing') return all.filter(name => /\.LST$/.test(name));
+    if (this.panel === 'map') return [built.mapName, built.loadMapName].filter(name => built.outputs.has(name));
+    if (this.panel === 'dump') return [...new Set([...all.filter(name => OBJECT.test(name)), ...this.page.objects()])];
+    return built.tape ? [built.tapeName] : [];
+  }
+
+  draw() {
+    if (this.panel === 'run') return;
+    const names = this.names();
+    const chosen = names.includes(this.chosen.get(this.panel)) ? this.chosen.get(this.panel) : this.preferred(names);
+    byId('which').replaceChildren(...names.map(name => make('option', { value: name, selected: name === chosen }, name)));
+    byId('which').disabled = names.length < 2;
+    byId('download-one').disabled = !names.length;
+    this.name = chosen;
+    const { text, note = '' } = chosen === undefined ? { text: '', note: this.nothing() } : this.content(chosen);
+    byId('shown').textContent = text.length > MOST_SHOWN ? text.slice(0, MOST_SHOWN) : text;
+    byId('panel-note').textContent = text.length > MOST_SHOWN ? 'The text is long: only its beginning is shown.' : note;
+    byId('shown').scrollTop = this.panel === 'trace' ? byId('shown').scrollHeight : 0;
+  }
+
+  // The listing of the source that is open comes first.
+  preferred(names) {
+    const open = this.page.openSource();
+    const module = this.built?.modules.find(one => one.file.name === open);
+    const wanted = this.panel === 'listing' ? module?.listing : module?.object;
+    return names.includes(wanted) ? wanted : names[0];
+  }
+
+  nothing() {
+    return this.panel === 'trace' ? 'Nothing has been run.' : 'There is none yet: F9 assembles and links.';
+  }
+
+  content(name) {
+    const bytes = this.bytesOf(name);
+    if (this.panel === 'listing' || this.panel === 'map') return { text: textOf(bytes) };
+    if (this.panel === 'dump') return { text: this.dump(['-d', '-o'], name, bytes, []) };
+    if (this.panel === 'tape') return { text: this.dump(['-d', '-t'], name, bytes, this.page.symbols()) };
+    return this.trace();
+  }
+
+  bytesOf(name) {
+    return this.built.outputs.get(name) ?? this.page.fileBytes(name);
+  }
+
+  dump(given, name, bytes, symbols) {
+    try {
+      const words = ['m11-dump', ...given, ...symbols.map(file => `--symbols=${file.name}`), '--', name];
+      const answer = this.engine.dump(words, [...symbols, { name, bytes }]);
+      return textOf(answer.output) + textOf(answer.messages);
+    } catch (error) {
+      return error.message;
+    }
+  }
+
+  // The last steps up to where the machine is.
+  trace() {
+    const { machine } = this.page;
+    if (!machine?.steps) return { text: '', note: 'Nothing has been run.' };
+    if (machine.steps > MOST_TRACED) return { text: '', note: `Steps are shown up to ${MOST_TRACED}.` };
+    const symbols = this.page.symbols();
+    const first = Math.max(1, machine.steps - LAST_STEPS + 1);
+    try {
+      const lines = traceLines(machine, first, machine.steps, symbols.map(file => file.name), symbols);
+      return { text: lines.join('\n'), note: `Steps ${first} to ${machine.steps}: number, address, instruction, what it changed` };
+    } catch (error) {
+      return { text: '', note: error.message };
+    }
+  }
+
+  downloaded() {
+    if (this.panel === 'trace' || this.panel === 'dump') download(`${this.name}.TXT`, new TextEncoder().encode(byId('shown').textContent));
+    else download(this.name, this.bytesOf(this.name));
+  }
+}
+
+/** Whether a name is one of a file that a build makes. */
+export function isOutput(name) {
+  return OBJECT.test(name) || TAPE.test(name) || /\.(?:LST|MAP)$/.test(name);
+}

@@ -1,0 +1,332 @@
+// The page: its files, what was built of them, and the machine that runs it.
+
+import { build } from './build.js';
+import { Console } from './console.js';
+import { Debugger } from './debugger.js';
+import { register } from './engine.js';
+import { byId, say } from './elements.js';
+import { Editor } from './editor.js';
+import { Files } from './files.js';
+import { Machine } from './machine.js';
+import { Marks } from './marks.js';
+import { showMessages } from './messages.js';
+import { Outputs } from './outputs.js';
+import { counted, octal } from './text.js';
+
+const DRAWN_EVERY = 120;
+const REGISTERS = ['R0', 'R1', 'R2', 'R3', 'R4', 'R5', 'SP', 'PC'];
+
+export class Page {
+  constructor(engine, options, notify) {
+    this.engine = engine;
+    this.options = options;
+    this.notify = notify;
+    this.files = new Files();
+    this.built = null;
+    this.isStale = true;
+    this.machine = null;
+    this.drawnAt = 0;
+    this.marks = new Marks(() => this.marked());
+    this.marks.toggle = (file, line) => this.toggleLine(file, line);
+    this.editor = new Editor(this.files, this.marks);
+    this.editor.onEdit = (file, line, by) => this.edited(file, line, by);
+    this.console = new Console({ typed: () => this.typed(), refused: text => notify(text) });
+    this.debugger = new Debugger(engine, this);
+    this.outputs = new Outputs(engine, this);
+    this.stored = () => {};
+  }
+
+  // --- what the parts of the page ask for ---
+
+  openSource() {
+    return this.files.open;
+  }
+
+  fileBytes(name) {
+    return this.files.bytesOf(this.files.find(name));
+  }
+
+  /** The names of objects from elsewhere. */
+  objects() {
+    return this.files.list.filter(file => /\.obj$/i.test(file.name)).map(file => file.name);
+  }
+
+  symbols() {
+    return this.machine ? this.debugger.symbols.files : [];
+  }
+
+  breaks() {
+    return this.built ? this.marks.at(this.built.places) : this.marks.addresses;
+  }
+
+  marked() {
+    this.editor.redraw();
+    this.stored();
+  }
+
+  /** Shows a file, and one of its lines. */
+  showLine(file, line, how = {}) {
+    if (!this.files.find(file)?.source) return;
+    if (this.files.open !== file) this.files.show(file);
+    document.body.dataset.area = how.focus === false ? document.body.dataset.area : 'source';
+    this.areaShown?.();
+    this.editor.goTo(line, how);
+  }
+
+  showFile(name) {
+    this.files.show(name);
+    this.editor.area?.focus();
+  }
+
+  // --- breakpoints ---
+
+  toggleLine(file, line) {
+    const places = this.built?.places;
+    const isKnown = places && !this.isStale && !this.marks.of(file, line).isBreak;
+    const found = isKnown ? places.nextStored(file, line, line + 50) : line;
+    const at = found ?? line;
+    const isSet = this.marks.turn(file, at);
+    if (isSet && isKnown && found === null) this.notify(`Line ${line} of ${file} stores no instruction: nothing stops there.`);
+    say(isSet ? `Breakpoint at line ${at}` : `No breakpoint at line ${at}`);
+    this.debugger.draw();
+  }
+
+  toggleAddress(address) {
+    const line = this.built?.places.lineAt(address);
+    if (line?.file && this.built.places.addressOf(line.file, line.line) === address) this.marks.turn(line.file, line.line);
+    else this.marks.turnAddress(address);
+    this.debugger.draw();
+  }
+
+  // --- building ---
+
+  /** Assembles and links. Returns whether there is a tape to run. */
+  build() {
+    this.machine?.halt();
+    this.machine = null;
+    try {
+      this.built = build(this.engine, this.files, this.options);
+    } catch (error) {
+      this.built = null;
+      this.shown([{ isError: true, text: error.message }]);
+      return false;
+    }
+    this.isStale = false;
+    this.marks.next = null;
+    this.marks.addresses.clear();
+    this.shown(this.built.messages);
+    this.outputs.attach(this.built);
+    if (this.built.isGood) this.load();
+    else this.unloaded();
+    return this.built.isGood && this.machine !== null;
+  }
+
+  shown(messages) {
+    const errors = messages.filter(message => message.isError);
+    this.marks.flag(errors);
+    showMessages(messages, (file, line) => this.showLine(file, line));
+    this.editor.redraw();
+    say(errors.length ? `${errors.length} messages` : 'Assembled and linked.');
+    if (errors.length) {
+      document.body.dataset.area = 'source';
+      this.areaShown?.();
+    }
+  }
+
+  unloaded() {
+    byId('machine-state').textContent = 'Nothing is loaded: see the messages.';
+    byId('code-lines').replaceChildren();
+    byId('memory-words').replaceChildren();
+    this.console.report('');
+    this.drawControls();
+  }
+
+  // Puts the tape into a new machine.
+  load() {
+    this.machine?.halt();
+    try {
+      this.machine = new Machine(this.engine, this.built.tape, this.options);
+    } catch (error) {
+      this.machine = null;
+      this.shown([...this.built.messages, { isError: true, text: error.message }]);
+      this.unloaded();
+      return;
+    }
+    this.console.attach(this.machine);
+    this.debugger.attach(this.machine, this.built);
+    this.stopped('');
+  }
+
+  // --- running ---
+
+  /** A machine with what is built of the files as they are, or null. */
+  ready() {
+    if (this.isStale || !this.machine) this.build();
+    return this.machine;
+  }
+
+  async run() {
+    if (this.machine?.isRunning) return;
+    const isPaused = this.machine && this.machine.steps > 0 && !this.machine.atEnd;
+    if (!isPaused) {
+      if (this.isStale || !this.machine) this.build();
+      else if (this.machine.steps > 0) this.load();
+    }
+    if (!this.machine || this.machine.stop === 'NO START') return;
+    await this.doing(machine => machine.run(this.breaks(), { progress: () => this.progress() }), true);
+  }
+
+  async step() {
+    if (this.ready() && !this.isStuck()) await this.doing(machine => machine.step(() => this.progress()));
+  }
+
+  async over() {
+    if (this.ready() && !this.isStuck()) await this.doing(machine => machine.over(this.breaks(), { progress: () => this.progress() }));
+  }
+
+  async back() {
+    if (!this.machine) return;
+    this.machine.halt();
+    if (this.machine.steps > 0) await this.goTo(this.machine.steps - 1);
+  }
+
+  async goTo(steps) {
+    if (!this.ready()) return;
+    this.machine.halt();
+    await this.doing(machine => machine.goTo(steps, () => this.progress()));
+  }
+
+  /** The program from its start. */
+  restart() {
+    if (this.isStale || !this.built?.tape) this.build();
+    else this.load();
+  }
+
+  // A stop after which no step changes anything.
+  isStuck() {
+    return ['STACK FAULT', 'NO START', 'INPUT FAULT', 'OUTPUT FAULT'].includes(this.machine.stop);
+  }
+
+  stop() {
+    if (!this.machine?.isRunning) return;
+    this.machine.halt();
+    this.stopped('stopped');
+  }
+
+  // Lets the machine do something, and shows where it is then.
+  async doing(task, isRun = false) {
+    const { machine } = this;
+    if (machine.isRunning) return;
+    this.marks.next = null;
+    this.begun = { time: performance.now(), steps: machine.steps };
+    const promise = task(machine);
+    this.drawControls();
+    if (isRun) this.runBegun?.();
+    try {
+      const why = await promise;
+      if (machine === this.machine && why !== 'stopped') this.stopped(why);
+    } catch (error) {
+      machine.halt();
+      this.notify(error.message);
+      this.stopped('');
+    }
+  }
+
+  /** A task of several runs, which says something at its end. */
+  async alone(task) {
+    if (!this.machine) return;
+    this.machine.halt();
+    try {
+      const said = await task(() => this.progress());
+      this.stopped('');
+      byId('machine-state').textContent = said;
+    } catch (error) {
+      this.notify(error.message);
+    }
+  }
+
+  // A slice of a run is over.
+  progress() {
+    this.console.update();
+    const now = performance.now();
+    if (now - this.drawnAt < DRAWN_EVERY && !this.machine.isAsking) return;
+    this.drawnAt = now;
+    this.debugger.draw({ isRunning: !this.machine.isAsking });
+    byId('machine-state').textContent = this.machine.isAsking ? this.asking() : this.running(now);
+    if (this.machine.isAsking) this.placed(false);
+    this.drawControls();
+  }
+
+  asking() {
+    return `WAITS FOR A KEY AFTER ${this.machine.steps} STEPS`;
+  }
+
+  running(now) {
+    const rate = (this.machine.steps - this.begun.steps) / Math.max(1, now - this.begun.time) / 1000;
+    return `Runs: ${counted(this.machine.steps)} steps, ${rate.toFixed(rate < 10 ? 1 : 0)} million a second`;
+  }
+
+  stopped(why) {
+    const { machine } = this;
+    this.console.update();
+    this.debugger.draw();
+    this.outputs.draw();
+    const report = this.report(why);
+    byId('machine-state').textContent = report || 'Loaded: no step was made yet.';
+    this.console.report(machine.stop ? `${machine.report()}\n${registersLine(machine)}` : '');
+    this.placed(machine.steps > 0 || why !== '');
+    this.drawControls();
+  }
+
+  report(why) {
+    const { machine } = this;
+    if (machine.stop) return machine.report();
+    if (why === 'break') return `REACHED AFTER ${machine.steps} STEPS`;
+    if (why === 'stopped') return `STOPPED AFTER ${machine.steps} STEPS`;
+    return machine.steps ? `AFTER ${machine.steps} STEPS` : '';
+  }
+
+  // Marks the line that runs next, and shows it if the machine has stopped at it.
+  placed(isShown) {
+    const line = this.machine ? this.built.places.lineAt(this.machine.pc) : null;
+    this.marks.next = line?.file && !this.isStale ? { file: line.file, line: line.line } : null;
+    if (isShown && this.marks.next) this.showLine(line.file, line.line, { select: false, focus: false });
+    this.editor.redraw();
+  }
+
+  typed() {
+    if (this.machine && !this.machine.isRunning && this.machine.steps === 0) this.run();
+    this.drawControls();
+  }
+
+  drawControls() {
+    const { machine } = this;
+    const isRunning = machine?.isRunning ?? false;
+    byId('run').disabled = isRunning;
+    byId('run-word').textContent = machine && machine.steps > 0 && !machine.atEnd ? 'Go on' : 'Run';
+    byId('stop').disabled = !isRunning;
+    byId('back').disabled = !machine || machine.steps === 0;
+    byId('step').disabled = isRunning;
+    byId('over').disabled = isRunning;
+    byId('end-input').disabled = !machine || machine.isOver;
+    const words = !machine ? '' : machine.isOver ? 'the input has ended' : machine.isAsking ? 'waits for a key' : isRunning ? 'runs' : machine.stop;
+    byId('console-state').textContent = words;
+  }
+
+  // --- edits ---
+
+  /** A source was edited: `line` is where, and `by` how many lines more it has. */
+  edited(file, line, by) {
+    this.isStale = true;
+    if (by) this.marks.move(file, line, by);
+    if (this.marks.next) {
+      this.marks.next = null;
+      this.editor.redraw();
+    }
+  }
+}
+
+/** The registers as `m11 sim` shows them at a stop. */
+function registersLine(machine) {
+  return REGISTERS.map((name, number) => `${name} ${octal(register(machine.state, number))}`).join(' ') + ` PSW ${octal(machine.psw())}`;
+}
