@@ -35,6 +35,14 @@ export class Console {
     this.again();
   }
 
+  /** Shows that no run is there. */
+  detach() {
+    this.machine = null;
+    this.reported = '';
+    this.screen.clear();
+    this.draw();
+  }
+
   // Draws all anew, up to where the machine is.
   again() {
     const { machine } = this;

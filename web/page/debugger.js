@@ -68,9 +68,10 @@ export class Debugger {
       return make('button', { type: 'button', class: 'register', title, disabled: name === 'PC',
         on: { click: () => this.back(registerOf(number, name)) } }, make('b', {}, name), ' ', value);
     });
-    const codes = CODES.map(([name]) => make('span', { class: 'code', id: `code-${name}` }, name));
-    const psw = make('span', { class: 'register psw' }, make('b', {}, 'PSW'), ' ', make('span', { class: 'value', id: 'register-PSW' }, '000000'), ' ', ...codes);
-    return [...registers, psw];
+    const codes = CODES.map(([name]) => make('span', { class: 'code', id: `code-${name}`, role: 'img' }, name));
+    const psw = make('span', { class: 'register' }, make('b', {}, 'PSW'), ' ', make('span', { class: 'value', id: 'register-PSW' }, '000000'));
+    const first = registers.slice(0, 4);
+    return [...first, psw, ...registers.slice(4), make('span', { class: 'codes' }, ...codes)];
   }
 
   /** Draws all, with what has changed since it was drawn last. */

@@ -142,9 +142,10 @@ export class OptionsDialog {
       const { given, fault } = this.read();
       byId('options-fault').textContent = fault;
       if (fault) return;
+      const isOtherProgram = ['bottom', 'start', 'words'].some(name => given[name] !== this.options[name]);
       Object.assign(this.options, given);
       byId('options-dialog').close();
-      kept();
+      kept(isOtherProgram);
     });
   }
 

@@ -8,6 +8,8 @@ const LABEL = /^\s*([A-Z$.][A-Z0-9$.]*)::?/i;
 const VALUE = /^\s*(?:[A-Z0-9$.]+::?\s*)*(?:[A-Z0-9$.]+\s*==?|\.NARG\b|\.NCHR\b)/i;
 const SYMBOL = /^(.{6})( = | {3})([0-7]{6}) ([R ])([G ]) ( *\d+| {3})$/;
 const PART = /^ {2}([0-7]{6}) ([0-7]{6}) (.{6})(?: (.*))?$/;
+/** Addresses further from a label have no name. */
+const MOST_DISTANT = 0o7777;
 const GLOBAL = /^ {2}([0-7]{6}) (\S+)/;
 
 // The sections of a listing by number, each with its name and its size.
@@ -115,9 +117,11 @@ export class Places {
   /** Adds a module whose parts begin at these addresses. `placeOf` says in which file a line is. */
   addModule(listing, bases, placeOf) {
     for (const symbol of listing.symbols) {
-      const value = symbol.isConstant ? symbol.value : (symbol.value + (bases[symbol.section] ?? 0)) & 0xffff;
+      const base = bases[symbol.section] ?? 0;
+      const value = symbol.isConstant ? symbol.value : (symbol.value + base) & 0xffff;
       if (!this.names.has(symbol.name)) this.names.set(symbol.name, value);
-      if (!symbol.isConstant) this.labels.push({ name: symbol.name, value });
+      // A label names addresses up to the end of its module's part of its section.
+      if (!symbol.isConstant) this.labels.push({ name: symbol.name, value, end: base + (listing.sections[symbol.section]?.size ?? 0) });
     }
     for (const line of listing.lines) {
       const place = placeOf(line.number);
@@ -129,7 +133,7 @@ export class Places {
   addNames(list) {
     for (const { name, value } of list) {
       if (!this.names.has(name)) this.names.set(name, value);
-      this.labels.push({ name, value });
+      if (!this.labels.some(label => label.name === name && label.value === value)) this.labels.push({ name, value, end: value + 1 });
     }
   }
 
@@ -171,11 +175,13 @@ export class Places {
       if (this.labels[middle].value <= address) low = middle + 1;
       else high = middle;
     }
-    if (low === 0) return '';
-    let first = low - 1;
-    while (first > 0 && this.labels[first - 1].value === this.labels[first].value) first -= 1;
-    const distance = address - this.labels[first].value;
-    if (distance > 0o7777) return '';
-    return this.labels[first].name + (distance ? '+' + distance.toString(8) : '');
+    // The last one whose part has the address; of those with one value the first.
+    let found = null;
+    for (let at = low - 1; at >= 0 && address - this.labels[at].value <= MOST_DISTANT && !(found && this.labels[at].value < found.value); at -= 1) {
+      if (address < this.labels[at].end) found = this.labels[at];
+    }
+    if (!found) return '';
+    const distance = address - found.value;
+    return found.name + (distance ? '+' + distance.toString(8) : '');
   }
 }

@@ -236,7 +236,11 @@ async function begin() {
   keys(page, find);
   new FilesDialog(page);
   new ExamplesDialog(DATA.examples, example => takeExample(page, example));
-  new OptionsDialog(options, () => { page.isStale = true; page.stored(); });
+  new OptionsDialog(options, isOtherProgram => {
+    page.isStale ||= isOtherProgram;
+    page.stored();
+    page.drawControls();
+  });
   new LinkDialog(page.files, notify);
   byId('storage-state').textContent = 'The files are kept in this browser.';
   let stored = await storage.load();

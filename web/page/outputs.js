@@ -2,7 +2,7 @@
 
 import { download } from './archive.js';
 import { byId, make, tabKeys } from './elements.js';
-import { OBJECT, TAPE } from './files.js';
+import { OBJECT } from './files.js';
 import { traceLines } from './search.js';
 import { textOf } from './text.js';
 
@@ -114,7 +114,7 @@ export class Outputs {
     const first = Math.max(1, machine.steps - LAST_STEPS + 1);
     try {
       const lines = traceLines(machine, first, machine.steps, symbols.map(file => file.name), symbols);
-      return { text: lines.join('\n'), note: `Steps ${first} to ${machine.steps}: number, address, instruction, what it changed` };
+      return { text: lines.map(inColumns).join('\n'), note: `Steps ${first} to ${machine.steps}: number, address, instruction, what it changed` };
     } catch (error) {
       return { text: '', note: error.message };
     }
@@ -126,7 +126,8 @@ export class Outputs {
   }
 }
 
-/** Whether a name is one of a file that a build makes. */
-export function isOutput(name) {
-  return OBJECT.test(name) || TAPE.test(name) || /\.(?:LST|MAP)$/.test(name);
+// The fields of a line of a trace below each other.
+function inColumns(line) {
+  const [number, address, instruction = '', ...changes] = line.split('\t');
+  return `${number.padStart(8)}  ${address.padEnd(20)}${instruction.padEnd(28)}${changes.join('  ')}`.trimEnd();
 }

@@ -135,9 +135,8 @@ export class Page {
 
   unloaded() {
     byId('machine-state').textContent = 'Nothing is loaded: see the messages.';
-    byId('code-lines').replaceChildren();
-    byId('memory-words').replaceChildren();
-    this.console.report('');
+    byId('machine').classList.add('off');
+    this.console.detach();
     this.drawControls();
   }
 
@@ -152,6 +151,7 @@ export class Page {
       this.unloaded();
       return;
     }
+    byId('machine').classList.remove('off');
     this.console.attach(this.machine);
     this.debugger.attach(this.machine, this.built);
     this.stopped('');
@@ -159,9 +159,9 @@ export class Page {
 
   // --- running ---
 
-  /** A machine with what is built of the files as they are, or null. */
+  /** A machine: one that was begun goes on, also if the files were changed since. */
   ready() {
-    if (this.isStale || !this.machine) this.build();
+    if (!this.machine || (this.isStale && this.machine.steps === 0)) this.build();
     return this.machine;
   }
 

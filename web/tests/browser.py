@@ -149,7 +149,7 @@ class Page:
         end = time.monotonic() + seconds
         while time.monotonic() < end:
             try:
-                if self.see(expression):
+                if self.see(f"!!({expression})"):
                     return
             except Failed:
                 pass
@@ -161,7 +161,8 @@ class Page:
 
     def key(self, name, modifiers=0):
         """A key with a name, or one with a character."""
-        code = CODES.get(name) or ord(name.upper())
+        # Codes of other characters would be those of keys such as End.
+        code = CODES.get(name) or (ord(name.upper()) if name.isalnum() and name.isascii() else 0)
         text = {"Enter": "\r", "Tab": ""}.get(name, name if len(name) == 1 and not modifiers & CONTROL else "")
         event = {"key": name, "code": name if name in CODES else "", "windowsVirtualKeyCode": code, "modifiers": modifiers}
         self.call("Input.dispatchKeyEvent", type="keyDown" if text else "rawKeyDown", **event, **({"text": text} if text else {}))
@@ -169,7 +170,7 @@ class Page:
 
     def type(self, text):
         for character in text:
-            self.key("Enter" if character == "\n" else character)
+            self.key({"\n": "Enter", "\t": "Tab"}.get(character, character))
 
     def place(self, selector):
         """The middle of an element that is seen."""
