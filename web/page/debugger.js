@@ -69,7 +69,7 @@ export class Debugger {
         on: { click: () => this.back(registerOf(number, name)) } }, make('b', {}, name), ' ', value);
     });
     const codes = CODES.map(([name]) => make('span', { class: 'code', id: `code-${name}`, role: 'img' }, name));
-    const psw = make('span', { class: 'register' }, make('b', {}, 'PSW'), ' ', make('span', { class: 'value', id: 'register-PSW' }, '000000'));
+    const psw = make('span', { class: 'register psw' }, make('b', {}, 'PSW'), ' ', make('span', { class: 'value', id: 'register-PSW' }, '000000'));
     const first = registers.slice(0, 4);
     return [...first, psw, ...registers.slice(4), make('span', { class: 'codes' }, ...codes)];
   }
@@ -118,7 +118,9 @@ export class Debugger {
     byId('code-place').textContent = next?.file ? `${next.file}, line ${next.line}` : '';
     byId('code-lines').replaceChildren(...rows.map((row, number) => this.codeLine(row, shown[number], row.address === pc, places)));
     const current = byId('code-lines').querySelector('.next');
-    if (current) byId('code-lines').scrollTop = Math.max(0, current.offsetTop - byId('code-lines').clientHeight / 3);
+    // Whole lines above it, about a third of what is seen.
+    const height = current?.offsetHeight || 1;
+    if (current) byId('code-lines').scrollTop = current.offsetTop - height * Math.floor(byId('code-lines').clientHeight / 3 / height);
   }
 
   codeLine(row, shown, isNext, places) {

@@ -10,6 +10,8 @@ import { memoryOf, psw, putWord, register, STOPS, word } from './engine.js';
 const SLICE_TIME = 16;
 /** How many states are kept before every second of them is given up. */
 const MOST_KEPT = 256;
+/** So many bytes of what was printed are held, or up to half of them. */
+const MOST_PRINTED = 8 * 1024 * 1024;
 const FIRST_SLICE = 20000;
 const LONGEST_SLICE = 4000000;
 const SP = 6;
@@ -40,7 +42,7 @@ export class Machine {
     this.consumed = 0;
     this.printed = 0;
     this.input = new ByteLog();
-    this.output = new ByteLog();
+    this.output = new ByteLog(MOST_PRINTED);
     this.echoes = [];
     this.isOver = false;
     this.ceiling = options.steps;

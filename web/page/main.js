@@ -55,6 +55,7 @@ function areas(page) {
       if (area === 'results' && page.outputs.panel === 'run') page.outputs.show('listing');
       if (area === 'console' || area === 'machine') page.outputs.show('run');
       page.editor.redraw();
+      page.debugger.draw({ isRunning: page.machine?.isRunning && !page.machine.isAsking });
     });
   }
   page.areaShown = showAreas;

@@ -304,6 +304,7 @@ export class Page {
     const isRunning = machine?.isRunning ?? false;
     byId('run').disabled = isRunning;
     byId('run-word').textContent = machine && machine.steps > 0 && !machine.atEnd ? 'Go on' : 'Run';
+    byId('stale').hidden = !this.built || !this.isStale;
     byId('stop').disabled = !isRunning;
     byId('back').disabled = !machine || machine.steps === 0;
     byId('step').disabled = isRunning;

@@ -14,8 +14,12 @@ function asked(request) {
 function opened() {
   const request = indexedDB.open(DATABASE, 1);
   request.onupgradeneeded = () => request.result.createObjectStore(STORE);
-  request.onblocked = () => {};
   return asked(request);
+}
+
+// A browser that neither gives nor refuses a storage doesn't keep the page from opening.
+function inTime(promise) {
+  return Promise.race([promise, new Promise((_, reject) => setTimeout(() => reject(new Error('no answer')), 3000))]);
 }
 
 /** Keeps one value, a moment after it was last changed. */
@@ -31,7 +35,7 @@ export class Storage {
   /** What is stored, or null if nothing is, or the browser refuses. */
   async load() {
     try {
-      this.database = await opened();
+      this.database = await inTime(opened());
       return (await asked(this.database.transaction(STORE).objectStore(STORE).get(KEY))) ?? null;
     } catch (error) {
       this.refuse(error);

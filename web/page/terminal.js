@@ -1,8 +1,9 @@
 // What a console's bytes look like: a screen of lines on which carriage return, line feed, backspace and tab act, and the bell flashes.
 
 /** The lines that are shown; earlier ones are dropped. */
-const MOST_LINES = 1500;
-const LONGEST_LINE = 4000;
+const MOST_LINES = 1000;
+const MOST_CHARACTERS = 100000;
+const LONGEST_LINE = 2000;
 
 export class Screen {
   constructor() {
@@ -12,6 +13,7 @@ export class Screen {
   clear() {
     this.lines = [[]];
     this.dropped = 0;
+    this.size = 0;
     this.column = 0;
     this.bells = 0;
     this.pending = [];
@@ -75,9 +77,13 @@ export class Screen {
   }
 
   newLine() {
+    this.size += this.lines.at(-1).length;
     this.lines.push([]);
     this.column = 0;
-    if (this.lines.length > MOST_LINES) this.dropped += this.lines.splice(0, this.lines.length - MOST_LINES).length;
+    while (this.lines.length > MOST_LINES || this.size > MOST_CHARACTERS) {
+      this.size -= this.lines.shift().length;
+      this.dropped += 1;
+    }
   }
 
   /** The screen as runs of text, each printed or typed. */

@@ -98,24 +98,36 @@ export function lineCount(text) {
   return lines + (/[^\0]/.test(text.slice(at)) ? 1 : 0);
 }
 
-/** A list of bytes that grows at its end. */
+/** A list of bytes that grows at its end. With a limit it forgets its beginning. */
 export class ByteLog {
-  constructor() {
+  constructor(limit = Infinity) {
     this.store = new Uint8Array(1024);
+    this.limit = limit;
+    // The number of bytes that were forgotten, and of all bytes.
+    this.first = 0;
     this.length = 0;
   }
 
   push(bytes) {
-    if (this.length + bytes.length > this.store.length) {
-      const larger = new Uint8Array(Math.max(2 * this.store.length, this.length + bytes.length));
-      larger.set(this.store.subarray(0, this.length));
+    const held = this.length - this.first;
+    if (held + bytes.length > this.limit) this.forget(held - Math.floor(this.limit / 2));
+    const size = this.length - this.first;
+    if (size + bytes.length > this.store.length) {
+      const larger = new Uint8Array(Math.max(2 * this.store.length, size + bytes.length));
+      larger.set(this.store.subarray(0, size));
       this.store = larger;
     }
-    this.store.set(bytes, this.length);
+    this.store.set(bytes, size);
     this.length += bytes.length;
   }
 
+  forget(count) {
+    if (count <= 0) return;
+    this.store = this.store.slice(count);
+    this.first += count;
+  }
+
   slice(from, to = this.length) {
-    return this.store.subarray(from, Math.min(to, this.length));
+    return this.store.subarray(Math.max(0, from - this.first), Math.max(0, Math.min(to, this.length) - this.first));
   }
 }

@@ -50,11 +50,22 @@ class Given:
         self.url = "file://" + urllib.parse.quote(os.path.abspath(path))
         self.folder = folder
         self.browser = browser.Browser()
+        self.last = None
 
     def open(self, **given):
         page = self.browser.open(given.pop("url", self.url), **given)
         page.harmless = lambda: same(page.see("window.harmed ?? null"), None)
+        self.last = page
         return page
+
+    def told(self):
+        """What the last page shows, for the report of a failure."""
+        if not self.last:
+            return "no page was opened"
+        faults = [event["params"]["exceptionDetails"].get("exception", {}).get("description") for event in self.browser.events
+                  if event.get("method") == "Runtime.exceptionThrown"]
+        shown = {name: self.last.text(f"#{name}") for name in ("notice-text", "messages-list", "machine-state", "console-state")}
+        return json.dumps({**shown, "faults": faults, "dialogs": self.last.see("[...document.querySelectorAll('dialog[open]')].map(one => one.id)")})
 
     def file(self, name, data):
         path = os.path.join(self.folder, name)
@@ -223,14 +234,36 @@ def stops_at_breakpoints(given):
     page.wait(f"{STATE} === 'HALT AFTER 1075 STEPS'")
 
 
+def alone(page, text):
+    """A single source with this text."""
+    source(page, text)
+    page.press("#files")
+    while page.see("document.querySelectorAll('.file').length > 1"):
+        page.see("document.querySelector('.file:last-child [aria-label^=Delete]').dataset.last = 'yes'")
+        page.press("[data-last=yes]")
+        page.press("#confirm-yes")
+        page.wait("!document.querySelector('#confirm').open && !document.querySelector('[data-last=yes]')")
+    page.press("#files-dialog [data-close]")
+
+
+@test
+def breakpoints_leave_the_program_as_it_is(given):
+    """A program that looks at its own words, also where a breakpoint is."""
+    page = given.open()
+    alone(page, "\t.TITLE\tP\nSTART:\tTST\tHERE\n\tBEQ\tBAD\n\tMOV\tHERE,R0\nHERE:\tINC\tR1\n\tMOV\tHERE,R2\n\tHALT\nBAD:\tBR\tBAD\n\t.END\tSTART\n")
+    page.press("[data-line='5']")
+    page.key("F8")
+    page.wait(f"{STATE} === 'REACHED AFTER 3 STEPS'")
+    same(page.text("#register-R0"), "005201")
+    page.key("F8")
+    page.wait(f"{STATE} === 'HALT AFTER 6 STEPS'")
+    same([page.text(f"#register-{name}") for name in ("R1", "R2")], ["000001", "005201"])
+
+
 @test
 def a_program_without_end_is_stopped(given):
     page = given.open()
-    source(page, LOOP)
-    page.press("#files")
-    page.press_text(".file .actions button[aria-label='Delete CONSOL.MAC']", "Delete")
-    page.press("#confirm-yes")
-    page.press("#files-dialog [data-close]")
+    alone(page, LOOP)
     page.press("#run")
     page.wait(f"{STATE} === 'LIMIT AFTER 1000000 STEPS'", 60)
     page.press("#options")
@@ -381,6 +414,7 @@ def input_comes_from_lines_pastes_and_files(given):
         document.activeElement.dispatchEvent(new ClipboardEvent('paste', { clipboardData: data, bubbles: true, cancelable: true })); })()""")
     page.wait(f"{SCREEN}.includes('3: TWO')")
     page.give_files("#pick-input", [given.file("in.txt", "from a file")])
+    page.wait(f"{SCREEN}.includes('from a file')")
     page.press("#screen")
     page.key("d", CONTROL)
     page.wait(f"{SCREEN}.includes('4: FROM A FILE') && {STATE}.startsWith('HALT AFTER')")
@@ -393,11 +427,7 @@ def control_characters_are_shown(given):
     text = "\t.TITLE\tP\nSTART:\tMOV\t#TEXT,R1\n1$:\tMOVB\t(R1)+,R0\n\tBEQ\t2$\n\tMOVB\tR0,@#177566\n\tBR\t1$\n2$:\tTSTB\t@#177560\n\tBPL\t3$\n" \
            "\tMOVB\t@#177562,R0\n\tCMP\tR0,#33\n\tBNE\t2$\n3$:\tHALT\nTEXT:\t.ASCII\t\"ABC\"<15>\"X\"<12>\"12\"<10>\"3\"<11>\"T\"<7><33>\"[31m\"<1><177><201>" \
            "\"<b>\"\n\t.BYTE\t0\n\t.END\tSTART\n"
-    source(page, text)
-    page.press("#files")
-    page.press("[aria-label='Delete CONSOL.MAC']")
-    page.press("#confirm-yes")
-    page.press("#files-dialog [data-close]")
+    alone(page, text)
     page.key("F8")
     page.wait(f"{STATE}.startsWith('WAITS')")
     page.wait(f"{SCREEN}.includes('<b>')")
@@ -679,6 +709,60 @@ def options_are_those_of_the_commands(given):
 
 
 @test
+def files_are_dropped_in(given):
+    page = given.open()
+    paths = [given.file("NEW.MAC", "; dropped\r\n\tNOP\r\n"), given.file("LATIN.MAC", b"; \xe9\n")]
+    for kind in ("dragEnter", "dragOver", "drop"):
+        page.call("Input.dispatchDragEvent", type=kind, x=300, y=300, data={"items": [], "files": paths, "dragOperationsMask": 1})
+    page.wait("[...document.querySelectorAll('#tabs [role=tab]')].some(tab => tab.textContent === 'LATIN.MAC')")
+    page.press_text("#tabs [role=tab]", "NEW.MAC")
+    same(value(page), "; dropped\n\tNOP\n")
+    # What was edited keeps its ends of lines and its coding.
+    for name in ("NEW.MAC", "LATIN.MAC"):
+        page.press_text("#tabs [role=tab]", name)
+        page.press("#editor .source:not([hidden])")
+        page.key("End", CONTROL)
+        page.type(";")
+    given.browser.call("Browser.setDownloadBehavior", behavior="allow", downloadPath=given.folder)
+    page.press("#files")
+    page.press("#download-all")
+    path = os.path.join(given.folder, "m11.zip")
+    arrived(path)
+    with zipfile.ZipFile(path) as archive:
+        same(archive.read("NEW.MAC"), b"; dropped\r\n\tNOP\r\n;")
+        same(archive.read("LATIN.MAC"), b"; \xe9\n;")
+
+
+@test
+def colours_follow_the_system_and_the_switch(given):
+    page = given.open(scheme="dark")
+    back = "getComputedStyle(document.body).backgroundColor"
+    dark = page.see(back)
+    page.press("#theme")
+    light = page.see(back)
+    check(light != dark, "Light is another colour")
+    page.press("#theme")
+    same([page.text("#theme-word"), page.see(back)], ["Dark", dark])
+    page.press("#theme")
+    page.call("Emulation.setEmulatedMedia", features=[{"name": "prefers-color-scheme", "value": "light"}])
+    same([page.text("#theme-word"), page.see(back)], ["Auto", light])
+
+
+@test
+def long_outputs_do_not_freeze_the_page(given):
+    page = given.open()
+    alone(page, "\t.TITLE\tP\nSTART:\tINC\tR0\n\tMOVB\tR0,@#177566\n\tBR\tSTART\n\t.END\tSTART\n")
+    page.key("F8")
+    page.wait(f"{STATE}.startsWith('Runs')")
+    begun = time.monotonic()
+    page.press("#tab-map")
+    page.press("#tab-run")
+    check(time.monotonic() - begun < 3, "the page answers while a program prints")
+    page.wait(f"{STATE} === 'LIMIT AFTER 1000000 STEPS'", 60)
+    check(page.see(f"{SCREEN}.length") < 200000, "the screen has an end")
+
+
+@test
 def breakpoints_move_with_their_lines(given):
     page = given.open()
     page.press("[data-line='8']")
@@ -710,6 +794,10 @@ def main(words):
             failed += 1
             trace = io.StringIO()
             traceback.print_exc(file=trace)
+            try:
+                trace.write(given.told())
+            except browser.Failed as fault:
+                trace.write(str(fault))
             print(f"FAILED {one.__name__}\n{trace.getvalue()}", flush=True)
         finally:
             given.browser.close()
