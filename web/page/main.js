@@ -252,6 +252,7 @@ async function begin() {
   await followLink(page, storage, own);
   page.drawControls();
   document.body.dataset.ready = 'yes';
+  performance.mark('ready');
 }
 
 setTheme('Auto');

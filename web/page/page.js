@@ -302,6 +302,8 @@ export class Page {
   drawControls() {
     const { machine } = this;
     const isRunning = machine?.isRunning ?? false;
+    byId('build').disabled = false;
+    byId('restart').disabled = !machine;
     byId('run').disabled = isRunning;
     byId('run-word').textContent = machine && machine.steps > 0 && !machine.atEnd ? 'Go on' : 'Run';
     byId('stale').hidden = !this.built || !this.isStale;

@@ -1,0 +1,131 @@
+#!/usr/bin/env python3
+"""Plays the game of the page in Firefox, by its keys, over Marionette: web/tests/test_firefox.py PAGE.html [PICTURE.png]
+
+Without Firefox it says that the test is skipped."""
+import base64
+import json
+import os
+import shutil
+import socket
+import subprocess
+import sys
+import tempfile
+import time
+import urllib.parse
+
+from test_page import GAME, check, same
+
+NAMES = ("firefox-esr", "firefox")
+PATIENCE = 60
+# The keys of WebDriver.
+ENTER, F8, F9 = "\ue007", "\ue038", "\ue039"
+
+
+class Firefox:
+    """A Firefox without a window, which is asked over a socket: lengths and lists in JSON."""
+
+    def __init__(self, program, folder):
+        with socket.socket() as free:
+            free.bind(("127.0.0.1", 0))
+            port = free.getsockname()[1]
+        with open(os.path.join(folder, "user.js"), "w", encoding="utf-8") as file:
+            file.write(f'user_pref("marionette.port", {port});\n')
+        words = [program, "--headless", "--marionette", "--no-remote", "--profile", folder, "--width", "1440", "--height", "985"]
+        self.process = subprocess.Popen(words, stdin=subprocess.DEVNULL, stdout=subprocess.DEVNULL, stderr=subprocess.DEVNULL)
+        self.stream = self.connected(port)
+        self.number = 0
+        self.message()
+        self.call("WebDriver:NewSession")
+
+    def connected(self, port):
+        end = time.monotonic() + PATIENCE
+        while True:
+            try:
+                return socket.create_connection(("127.0.0.1", port), PATIENCE).makefile("rwb")
+            except OSError:
+                if time.monotonic() > end or self.process.poll() is not None:
+                    self.process.kill()
+                    raise
+                time.sleep(0.1)
+
+    def message(self):
+        length = b""
+        while not length.endswith(b":"):
+            length += self.stream.read(1)
+        return json.loads(self.stream.read(int(length[:-1])))
+
+    def call(self, name, **given):
+        self.number += 1
+        data = json.dumps([0, self.number, name, given]).encode()
+        self.stream.write(b"%d:" % len(data) + data)
+        self.stream.flush()
+        _, number, fault, result = self.message()
+        check(number == self.number and fault is None, f"{name}: {fault}")
+        return result
+
+    def see(self, expression):
+        return self.call("WebDriver:ExecuteScript", script=f"return {expression}", args=[])["value"]
+
+    def wait(self, expression):
+        end = time.monotonic() + PATIENCE
+        while not self.see(expression):
+            check(time.monotonic() < end, f"not so in {PATIENCE} seconds: {expression}")
+            time.sleep(0.1)
+
+    def type(self, keys):
+        actions = [{"type": kind, "value": key} for key in keys for kind in ("keyDown", "keyUp")]
+        self.call("WebDriver:PerformActions", actions=[{"type": "key", "id": "keys", "actions": actions}])
+
+    def close(self):
+        try:
+            self.call("Marionette:Quit", flags=["eForceQuit"])
+            self.process.wait(20)
+        except (OSError, ValueError, AssertionError, subprocess.TimeoutExpired):
+            self.process.kill()
+            self.process.wait()
+
+
+def plays(firefox, url):
+    firefox.call("WebDriver:Navigate", url=url)
+    firefox.wait("document.body.dataset.ready === 'yes'")
+    firefox.type(F9)
+    firefox.wait("document.querySelector('#messages-list').textContent.includes('GUESS.TAP is linked')")
+    firefox.type(F8)
+    firefox.wait("document.querySelector('#machine-state').textContent.startsWith('WAITS')")
+    firefox.type("Ada\n50\n25\n12\n20\n23\n".replace("\n", ENTER))
+    firefox.wait("document.querySelector('#machine-state').textContent === 'HALT AFTER 1827 STEPS'")
+    firefox.wait("document.querySelector('#screen-text').textContent.includes('PSW')")
+    same(firefox.see("document.querySelector('#screen-text').textContent"), GAME)
+    # The files are there again.
+    time.sleep(0.6)
+    firefox.call("WebDriver:Refresh")
+    firefox.wait("document.body.dataset.ready === 'yes'")
+    same(firefox.see("[...document.querySelectorAll('#tabs [role=tab]')].map(tab => tab.textContent)"), ["GUESS.MAC", "CONSOL.MAC"])
+    same(firefox.see("document.querySelector('#notice').hidden"), True)
+
+
+def main(words):
+    if not words:
+        raise SystemExit(__doc__.split("\n", maxsplit=1)[0])
+    program = next((path for path in map(shutil.which, NAMES) if path), None)
+    if not program:
+        print(f"skipped: the test of the page in Firefox, since there is none ({', '.join(NAMES)})")
+        return 0
+    folder = tempfile.mkdtemp(prefix="m11-firefox-")
+    firefox = Firefox(program, folder)
+    try:
+        plays(firefox, "file://" + urllib.parse.quote(os.path.abspath(words[0])))
+        if words[1:]:
+            firefox.type(F9)
+            time.sleep(1)
+            with open(words[1], "wb") as file:
+                file.write(base64.b64decode(firefox.call("WebDriver:TakeScreenshot", full=False)["value"]))
+    finally:
+        firefox.close()
+        shutil.rmtree(folder, ignore_errors=True)
+    print("passed: the game in Firefox")
+    return 0
+
+
+if __name__ == "__main__":
+    sys.exit(main(sys.argv[1:]))
