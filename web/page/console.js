@@ -126,10 +126,18 @@ export class Console {
     this.host.classList.add('flash');
   }
 
+  // Why nothing can be typed, or nothing.
+  whyNot() {
+    if (!this.machine) return 'No program is loaded: assemble and link first.';
+    if (this.machine.isOver) return 'The input was ended. Restart the program to type again.';
+    return this.machine.atEnd ? 'The program has stopped: nothing reads what is typed.' : '';
+  }
+
   /** Input for the program. */
   type(bytes) {
-    if (!this.machine || this.machine.isOver || !bytes.length) {
-      this.events.refused(this.machine ? 'The input was ended. Restart the program to type again.' : 'No program is loaded: assemble and link first.');
+    const fault = this.whyNot();
+    if (fault) {
+      this.events.refused(fault);
       return;
     }
     this.host.scrollTop = this.host.scrollHeight;

@@ -9,7 +9,7 @@ import { textOf } from './text.js';
 /** A text of more characters is shown to here; the rest is in the file. */
 const MOST_SHOWN = 2000000;
 const LAST_STEPS = 200;
-const MOST_TRACED = 20000000;
+const MOST_TRACED = 5000000;
 
 export class Outputs {
   constructor(engine, page) {

@@ -165,10 +165,14 @@ export class Page {
     return this.machine;
   }
 
+  // Whether a run goes on: not one of files that were changed since.
+  isPaused() {
+    return this.machine !== null && this.machine.steps > 0 && !this.machine.atEnd && !this.isStale;
+  }
+
   async run() {
     if (this.machine?.isRunning) return;
-    const isPaused = this.machine && this.machine.steps > 0 && !this.machine.atEnd;
-    if (!isPaused) {
+    if (!this.isPaused()) {
       if (this.isStale || !this.machine) this.build();
       else if (this.machine.steps > 0) this.load();
     }
@@ -236,6 +240,9 @@ export class Page {
   async alone(task) {
     if (!this.machine) return;
     this.machine.halt();
+    byId('machine-state').textContent = 'Looks back …';
+    // The words are seen before the work begins.
+    await new Promise(resolve => requestAnimationFrame(() => setTimeout(resolve, 0)));
     try {
       const said = await task(() => this.progress());
       this.stopped('');
@@ -305,7 +312,7 @@ export class Page {
     byId('build').disabled = false;
     byId('restart').disabled = !machine;
     byId('run').disabled = isRunning;
-    byId('run-word').textContent = machine && machine.steps > 0 && !machine.atEnd ? 'Go on' : 'Run';
+    byId('run-word').textContent = this.isPaused() ? 'Go on' : 'Run';
     byId('stale').hidden = !this.built || !this.isStale;
     byId('stop').disabled = !isRunning;
     byId('back').disabled = !machine || machine.steps === 0;

@@ -4,7 +4,7 @@ import { register, word } from './engine.js';
 import { textOf } from './text.js';
 
 /** Runs up to this many steps are searched step by step, with the lines of m11-trace; longer ones by halving. */
-const MOST_TRACED = 8000000;
+const MOST_TRACED = 2000000;
 /** How many steps of a trace are read at once. */
 const WINDOWS = [1000, 20000, 100000];
 
