@@ -2,7 +2,7 @@
 
 import { download, zipOf } from './archive.js';
 import { button, byId, confirmed, make } from './elements.js';
-import { nameFault, OBJECT, ROLES, TAPE } from './files.js';
+import { OBJECT, ROLES, TAPE } from './files.js';
 import { fragmentOf } from './links.js';
 import { counted, fromOctal } from './text.js';
 
@@ -78,7 +78,8 @@ export class FilesDialog {
     const size = make('span', { class: 'size' }, `${counted(this.files.bytesOf(file).length)} bytes`);
     const isPart = !isTape && (file.source || OBJECT.test(name));
     const role = isPart ? this.roleOf(file) : make('span', { class: 'dim' }, isTape ? 'a tape' : 'not built');
-    const action = (word, label, click, properties = {}) => button(word, click, { class: 'quiet', 'aria-label': `${label} ${name}`, title: label, ...properties });
+    const action = (word, label, click, properties = {}) =>
+      button(word, click, { class: 'quiet', 'aria-label': `${label} ${name}`, title: label, ...properties });
     return make('li', { class: 'file' }, make('span', { class: 'name' }, name), size, role, make('span', { class: 'actions' },
       action('▲', 'Move up', () => this.files.move(name, -1), { disabled: number === 0 }),
       action('▼', 'Move down', () => this.files.move(name, 1), { disabled: number === this.files.list.length - 1 }),
@@ -89,11 +90,12 @@ export class FilesDialog {
   roleOf(file) {
     const kinds = OBJECT.test(file.name) ? ['module', 'apart'] : Object.keys(ROLES);
     const options = kinds.map(kind => make('option', { value: kind, selected: file.role === kind }, ROLES[kind]));
-    return make('select', { 'aria-label': `What ${file.name} is for`, on: { change: event => this.files.setRole(file.name, event.target.value) } }, ...options);
+    const change = event => this.files.setRole(file.name, event.target.value);
+    return make('select', { 'aria-label': `What ${file.name} is for`, on: { change } }, ...options);
   }
 
   async rename(name) {
-    const wanted = await askName(`Rename ${name}`, 'Rename', name, text => (text === name ? '' : nameFault(text) || (this.files.find(text) ? 'Another file has this name.' : '')));
+    const wanted = await askName(`Rename ${name}`, 'Rename', name, text => (text === name ? '' : this.files.fault(text)));
     if (wanted !== null) this.files.rename(name, wanted);
   }
 
@@ -102,7 +104,7 @@ export class FilesDialog {
   }
 
   async made() {
-    const name = await askName('New file', 'Make', this.files.unused('P.MAC'), text => nameFault(text) || (this.files.find(text) ? 'Another file has this name.' : ''));
+    const name = await askName('New file', 'Make', this.files.unused('P.MAC'), text => this.files.fault(text));
     if (name === null) return;
     this.files.put(name, new TextEncoder().encode(`\t.TITLE\t${title(name)}\n\nSTART:\tHALT\n\n\t.END\tSTART\n`));
     byId('files-dialog').close();

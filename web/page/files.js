@@ -92,11 +92,16 @@ export class Files {
     return free;
   }
 
+  /** What is wrong with a name for another file, or nothing. */
+  fault(name) {
+    return nameFault(name) || (this.find(name) ? 'Another file has this name.' : '');
+  }
+
   /** Gives a file another name. Returns what is wrong with it, or nothing. */
   rename(name, wanted) {
     const file = this.find(name);
     if (name === wanted) return '';
-    const fault = nameFault(wanted) || (this.find(wanted) ? 'Another file has this name.' : '');
+    const fault = this.fault(wanted);
     if (fault) return fault;
     file.name = wanted;
     if (this.open === name) this.open = wanted;

@@ -155,7 +155,8 @@ function filesOfExample(example) {
 
 /** Puts an example in the place of the files, after a question if any of them isn't of an example. */
 async function takeExample(page, example) {
-  const isOwn = page.files.copies().some(file => !DATA.examples.some(one => filesOfExample(one).some(other => other.name === file.name && isSame(other.bytes, file.bytes))));
+  const known = DATA.examples.flatMap(filesOfExample);
+  const isOwn = page.files.copies().some(file => !known.some(other => other.name === file.name && isSame(other.bytes, file.bytes)));
   if (isOwn && !(await confirmed(`Put “${example.title}” in the place of your files? Download them first if you want to keep them.`, 'Replace'))) return;
   page.files.replace(filesOfExample(example));
   page.marks.set([]);

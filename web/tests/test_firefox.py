@@ -13,7 +13,7 @@ import tempfile
 import time
 import urllib.parse
 
-from test_page import GAME, check, same
+from given import GAME, check, same
 
 NAMES = ("firefox-esr", "firefox")
 PATIENCE = 60

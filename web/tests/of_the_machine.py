@@ -1,0 +1,167 @@
+"""Tests of the page: steps, breakpoints and long runs."""
+import time
+
+from browser import CONTROL, SHIFT
+from given import LOOP, SCREEN, STATE, alone, built, check, example, same, screen, test, value
+
+
+@test
+def goes_back_to_a_mistake(given):
+    page = given.open()
+    example(page, "going back")
+    page.key("F8")
+    page.wait(f"{STATE} === 'HALT AFTER 19 STEPS'")
+    same(page.text("#register-PC"), "000002")
+    page.press_text("#registers button", "R4")
+    page.wait(f"{STATE} === 'Step 17 changes R4 from 001014 to 001016.'")
+    page.press_text("#registers button", "R4")
+    page.wait(f"{STATE} === 'Step 16 changes R4 from 001024 to 001014.'")
+    page.wait("document.querySelector('#editor-layer .next')")
+    same(page.text("#editor-layer .next"), "\tADD\t(R4),R4")
+    same(page.text("#code-lines .next .instruction"), "ADD    (R4),R4")
+    same(page.text("#code-place"), "COUNT.MAC, line 34")
+    same(page.see("document.querySelector('#step-number').value"), "15")
+    # The word on the stack is 10 since step 12.
+    page.press("#memory-words .stack")
+    page.wait(f"{STATE} === 'Step 12 changes 001144 from 000011 to 000010.'")
+    # On again to the end: the run is the same.
+    page.key("F8")
+    page.wait(f"{STATE} === 'HALT AFTER 19 STEPS'")
+    page.press_text("#registers button", "R1")
+    page.wait(f"{STATE} === 'Nothing has changed R1 in these 19 steps.'")
+
+
+@test
+def steps_there_and_back(given):
+    page = given.open()
+    built(page)
+    page.key("F7")
+    page.wait(f"{STATE} === 'AFTER 1 STEPS'")
+    same(page.text("#register-SP"), "001676")
+    page.press("#step")
+    page.wait(f"{STATE} === 'AFTER 2 STEPS'")
+    # The third instruction is a call; the program prints in it.
+    page.press("#over")
+    page.wait(f"{STATE}.startsWith('AFTER') && document.querySelector('#register-PC').textContent === '001014'")
+    same(screen(page).strip(), "Who are you?")
+    over = int(page.see("document.querySelector('#step-number').value"))
+    check(over > 20, f"a call in {over} steps")
+    page.press("#back")
+    page.wait(f"{STATE} === 'AFTER {over - 1} STEPS'")
+    page.key("F7", SHIFT)
+    page.wait(f"{STATE} === 'AFTER {over - 2} STEPS'")
+    page.key("F10")
+    page.wait(f"{STATE} === 'AFTER {over - 1} STEPS'")
+    page.press("#step-number")
+    page.key("a", CONTROL)
+    page.type("2\n")
+    page.wait(f"{STATE} === 'AFTER 2 STEPS'")
+    same(page.text("#register-PC"), "001010")
+    page.wait(f"{SCREEN}.trim() === ''")
+    page.press("#restart")
+    page.wait(f"{STATE} === 'Loaded: no step was made yet.'")
+
+
+@test
+def stops_at_breakpoints(given):
+    page = given.open()
+    built(page)
+    # A press on the number of a line: INC TRIES.
+    line = 1 + value(page).split("\n").index("\tINC\tTRIES")
+    page.see(f"document.querySelector('#editor .source:not([hidden])').scrollTop = {20 * line - 200}")
+    page.wait(f"(top => top > 100 && top < 500)(document.querySelector('[data-line=\"{line}\"]')?.getBoundingClientRect().top)")
+    page.press(f"[data-line=\"{line}\"]")
+    page.wait(f"document.querySelector('[data-line=\"{line}\"]').classList.contains('break')")
+    page.key("F8")
+    page.wait(f"{STATE}.startsWith('WAITS')")
+    page.press("#screen")
+    page.type("Ada\n50\n23\n")
+    page.wait(f"{STATE} === 'REACHED AFTER 619 STEPS'")
+    same(page.text("#register-PC"), "001222")
+    same(page.text("#code-lines .next .dot"), "●")
+    page.key("F8")
+    page.wait(f"{STATE} === 'REACHED AFTER 875 STEPS'")
+    # The same place by the machine's list, and another one.
+    page.press("#code-lines .next .dot")
+    page.wait("document.querySelectorAll('.number.break').length === 0")
+    page.press("#code-lines li.next + li .dot")
+    page.key("F8")
+    page.wait(f"{STATE} === 'REACHED AFTER 876 STEPS'")
+    page.press("#code-lines .next .dot")
+    page.key("F8")
+    page.wait(f"{STATE} === 'HALT AFTER 1075 STEPS'")
+
+
+@test
+def breakpoints_leave_the_program_as_it_is(given):
+    """A program that looks at its own words, also where a breakpoint is."""
+    page = given.open()
+    alone(page, "\t.TITLE\tP\nSTART:\tNOP\n\tTST\tHERE\n\tBEQ\tBAD\n\tMOV\tHERE,R0\nHERE:\tINC\tR1\n\tMOV\tHERE,R2\n\tHALT\nBAD:\tBR\tBAD\n\t.END\tSTART\n")
+    page.press("[data-line='6']")
+    page.key("F8")
+    page.wait(f"{STATE} === 'REACHED AFTER 4 STEPS'")
+    same(page.text("#register-R0"), "005201")
+    page.key("F8")
+    page.wait(f"{STATE} === 'HALT AFTER 7 STEPS'")
+    same([page.text(f"#register-{name}") for name in ("R1", "R2")], ["000001", "005201"])
+
+
+@test
+def breakpoints_move_with_their_lines(given):
+    page = given.open()
+    page.press("[data-line='8']")
+    page.wait("document.querySelector('[data-line=\"8\"]').classList.contains('break')")
+    page.press("#editor .source:not([hidden])")
+    page.key("Home", CONTROL)
+    page.type("\n\n")
+    page.wait("document.querySelector('[data-line=\"10\"]').classList.contains('break')")
+    page.key("z", CONTROL)
+    page.wait("document.querySelector('.number.break').dataset.line !== '10'")
+
+
+@test
+def a_program_without_end_is_stopped(given):
+    page = given.open()
+    alone(page, LOOP)
+    page.press("#run")
+    page.wait(f"{STATE} === 'LIMIT AFTER 1000000 STEPS'", 60)
+    page.press("#options")
+    page.press("#option-steps")
+    page.key("a", CONTROL)
+    page.type("1000000001")
+    page.press("#options-keep")
+    check("0 to 1000000000" in page.text("#options-fault"), page.text("#options-fault"))
+    page.key("Backspace")
+    page.press("#option-steps")
+    page.key("a", CONTROL)
+    page.type("1000000000")
+    page.press("#options-keep")
+    page.press("#run")
+    page.wait(f"{STATE}.startsWith('Runs: ') && document.querySelector('#stop').disabled === false")
+    # While it runs the page answers.
+    begun = time.monotonic()
+    page.press("#tab-map")
+    same(page.see("document.querySelector('#panel-text').hidden"), False)
+    page.press("#tab-run")
+    check(time.monotonic() - begun < 2, "the page answers while a program runs")
+    page.press("#stop")
+    page.wait(f"{STATE}.startsWith('STOPPED AFTER ')")
+    steps = page.see(STATE)
+    time.sleep(0.3)
+    same(page.see(STATE), steps)
+    page.press("#step")
+    page.wait(f"{STATE} === 'AFTER {int(steps.split()[2]) + 1} STEPS'")
+
+
+@test
+def long_outputs_do_not_freeze_the_page(given):
+    page = given.open()
+    alone(page, "\t.TITLE\tP\nSTART:\tINC\tR0\n\tMOVB\tR0,@#177566\n\tBR\tSTART\n\t.END\tSTART\n")
+    page.key("F8")
+    page.wait(f"{STATE}.startsWith('Runs')")
+    begun = time.monotonic()
+    page.press("#tab-map")
+    page.press("#tab-run")
+    check(time.monotonic() - begun < 3, "the page answers while a program prints")
+    page.wait(f"{STATE} === 'LIMIT AFTER 1000000 STEPS'", 60)
+    check(page.see(f"{SCREEN}.length") < 200000, "the screen has an end")
