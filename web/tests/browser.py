@@ -173,12 +173,18 @@ class Page:
             self.key({"\n": "Enter", "\t": "Tab"}.get(character, character))
 
     def place(self, selector):
-        """The middle of an element that is seen."""
-        box = self.see(f"""(() => {{ const element = document.querySelector({json.dumps(selector)}); if (!element) return null;
-            element.scrollIntoView({{ block: 'nearest', inline: 'nearest' }}); const box = element.getBoundingClientRect();
-            const x = box.left + Math.min(box.width / 2, 200), y = box.top + box.height / 2;
-            const top = document.elementFromPoint(x, y);
-            return {{ x, y, isSeen: box.width > 0 && (element.contains(top) || (top?.contains(element) ?? false)) }}; }})()""")
+        """The middle of an element that is seen, and that has come to rest."""
+        box = self.see(f"""(async () => {{ let last = '';
+            for (let turn = 0; turn < 50; turn += 1) {{
+                await new Promise(resolve => requestAnimationFrame(resolve));
+                const element = document.querySelector({json.dumps(selector)}); if (!element) continue;
+                element.scrollIntoView({{ block: 'nearest', inline: 'nearest' }}); const box = element.getBoundingClientRect();
+                const x = box.left + Math.min(box.width / 2, 200), y = box.top + box.height / 2, top = document.elementFromPoint(x, y);
+                const isSeen = box.width > 0 && (element.contains(top) || (top?.contains(element) ?? false)), now = `${{x}} ${{y}}`;
+                if (isSeen && now === last) return {{ x, y, isSeen }};
+                last = now;
+            }}
+            return null; }})()""")
         if not box or not box["isSeen"]:
             raise Failed(f"nobody can press {selector}")
         return box["x"], box["y"]

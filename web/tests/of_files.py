@@ -128,7 +128,13 @@ def a_link_carries_a_program(given):
     other.wait("document.querySelector('#notice').textContent.includes('came with the link')")
     same(value(other), LOOP + f"; {MARKUP}\n")
     other.harmless()
-    # What is stored stays.
+    # What is stored stays, whether the reader chooses or not.
+    time.sleep(0.6)
+    other.close()
+    plain = given.open()
+    same(value(plain), "; my own\n")
+    plain.close()
+    other = given.open(url=link)
     other.press_text("#notice button", "Back to mine")
     same(value(other), "; my own\n")
     other.close()
@@ -151,6 +157,7 @@ def four_megabytes_of_source(given):
         page.press(f"[aria-label='Delete {name}']")
         page.press("#confirm-yes")
     page.give_files("#pick-files", [given.file("BIG.MAC", text)])
+    page.wait("document.querySelector('#files-list').textContent.includes('BIG.MAC')", 60)
     page.press("#files-dialog [data-close]")
     page.wait("document.querySelector('#tabs [aria-selected=true]')?.textContent === 'BIG.MAC'", 60)
     begun = time.monotonic()
