@@ -37,7 +37,7 @@ export function build(engine, files, options) {
   }
   if (built.messages.some(message => message.isError)) return built;
   link(engine, plan, built, options);
-  if (built.tape) place(engine, built, plan, options);
+  if (built.tape) named(engine, built, plan, options);
   return built;
 }
 
@@ -165,6 +165,16 @@ function whereNamed(plan, name) {
   return {};
 }
 
+// The places of all lines and names. A program runs without them too.
+function named(engine, built, plan, options) {
+  try {
+    place(engine, built, plan, options);
+  } catch (error) {
+    built.messages.push({ text: `There are no names of addresses: ${error.message}` });
+  }
+  built.places.finish();
+}
+
 // The load map, and the places of all lines of sources.
 function place(engine, built, plan, options) {
   const objects = plan.modules.map(module => ({ name: module.object, bytes: built.outputs.get(module.object) ?? module.file.bytes }));
@@ -184,7 +194,6 @@ function place(engine, built, plan, options) {
     }
     built.places.addNames(map.globals);
   }
-  built.places.finish();
 }
 
 // A line of a listing that has the lines of expansions: the source that lists them is its first line.

@@ -2,7 +2,7 @@
 
 import { bytesAt, memoryOf, register, word } from './engine.js';
 import { button, byId, make } from './elements.js';
-import { backToChange, registerOf, wordAt } from './search.js';
+import { backToChange, registerOf, STATUS, wordAt } from './search.js';
 import { fromOctal, octal, textOf } from './text.js';
 
 const NAMES = ['R0', 'R1', 'R2', 'R3', 'R4', 'R5', 'SP', 'PC'];
@@ -50,8 +50,8 @@ export class Debugger {
   knownRows() {
     const rows = [...this.built.places.lines];
     const covered = new Set(rows.flatMap(row => Array.from({ length: row.size }, (_, at) => row.address + at)));
-    const answer = this.engine.dump(['m11-dump', '-d', '-t', '--', 'RUN.TAP'], [{ name: 'RUN.TAP', bytes: this.machine.tape }]);
-    for (const line of textOf(answer.output).split('\n')) {
+    const text = this.view(['m11-dump', '-d', '-t', '--', 'RUN.TAP'], [{ name: 'RUN.TAP', bytes: this.machine.tape }]);
+    for (const line of text.split('\n')) {
       const found = /^ {2}([0-7]{6}) ([0-7]{3,6}(?: [0-7]{6})*)(?: |$)/.exec(line);
       if (!found) continue;
       const address = parseInt(found[1], 8);
@@ -59,6 +59,15 @@ export class Debugger {
       if (!covered.has(address)) rows.push({ address, size: areBytes ? 1 : 2 * found[2].split(' ').length, areBytes, file: null, line: 0, text: '' });
     }
     return rows.sort((one, other) => one.address - other.address);
+  }
+
+  // What m11-dump prints, or nothing if there was no memory for it.
+  view(words, files) {
+    try {
+      return textOf(this.engine.dump(words, files).output);
+    } catch {
+      return '';
+    }
   }
 
   registerParts() {
@@ -69,7 +78,8 @@ export class Debugger {
         on: { click: () => this.back(registerOf(number, name)) } }, make('b', {}, name), ' ', value);
     });
     const codes = CODES.map(([name]) => make('span', { class: 'code', id: `code-${name}`, role: 'img' }, name));
-    const psw = make('span', { class: 'register psw' }, make('b', {}, 'PSW'), ' ', make('span', { class: 'value', id: 'register-PSW' }, '000000'));
+    const psw = make('button', { type: 'button', class: 'register psw', title: 'Back to before the last change of the processor status',
+      on: { click: () => this.back(STATUS) } }, make('b', {}, 'PSW'), ' ', make('span', { class: 'value', id: 'register-PSW' }, '000000'));
     const first = registers.slice(0, 4);
     return [...first, psw, ...registers.slice(4), make('span', { class: 'codes' }, ...codes)];
   }
@@ -152,7 +162,7 @@ export class Debugger {
   readOn(pc) {
     const bytes = bytesAt(this.machine.state, pc, 12);
     if (!bytes.length || pc & 1) return [{ address: pc, size: 2, areBytes: false, file: null, line: 0 }];
-    const lines = this.dumped([tapeOf(pc, bytes)])[0];
+    const lines = this.dumped([tapeOf(pc, bytes)])[0] ?? [{ address: pc, words: '000000' }];
     return lines.slice(0, 2).map(line => ({ address: line.address, size: 2 * line.words.split(' ').length, areBytes: false, file: null, line: 0 }));
   }
 
@@ -165,12 +175,12 @@ export class Debugger {
     const byRow = new Map(asked.map((number, at) => [number, answers[at]]));
     return rows.map((row, number) => {
       if (row.areBytes) return { words: '', text: dataText(contents[number], row.size) };
-      const lines = byRow.get(number);
-      if (!lines) return { words: '', text: 'no memory here' };
-      const isData = /\.WORD\b/i.test(row.text ?? '');
-      const words = lines.map(line => line.words).join(' ');
-      if (isData || lines.length > 1) return { words, text: '.WORD  ' + words.split(' ').map(text => parseInt(text, 8).toString(8)).join(',') };
-      return { words, text: lines[0]?.text ?? '' };
+      if (!byRow.has(number)) return { words: '', text: 'no memory here' };
+      const words = wordsOf(contents[number]);
+      const lines = byRow.get(number) ?? [];
+      const isData = /\.WORD\b/i.test(row.text ?? '') || lines.length > 1;
+      const data = `.WORD  ${words.map(one => one.toString(8)).join(',')}${row.size > 6 ? ' …' : ''}`;
+      return { words: words.map(one => octal(one)).join(' '), text: isData ? data : lines[0]?.text ?? '' };
     });
   }
 
@@ -179,8 +189,7 @@ export class Debugger {
     if (!tapes.length) return [];
     const files = tapes.map((bytes, number) => ({ name: `T${number}`, bytes }));
     const words = ['m11-dump', '-d', '-t', ...this.symbols.names.map(name => `--symbols=${name}`), '--', ...files.map(file => file.name)];
-    const answer = this.engine.dump(words, [...this.symbols.files, ...files]);
-    return textOf(answer.output).split(/^TAPE .*\n/m).slice(1).map(part => {
+    return this.view(words, [...this.symbols.files, ...files]).split(/^TAPE .*\n/m).slice(1).map(part => {
       const lines = [];
       for (const line of part.split('\n')) {
         const found = /^ {2}([0-7]{6}) ((?:[0-7]{6} ?){1,3}|[0-7]{3} )\s*([^\t]*)/.exec(line);
@@ -302,6 +311,10 @@ export class Debugger {
     }
     this.page.goTo(Number(text));
   }
+}
+
+function wordsOf(bytes) {
+  return Array.from({ length: bytes.length >> 1 }, (_, at) => bytes[2 * at] | (bytes[2 * at + 1] << 8));
 }
 
 function characters(bytes) {

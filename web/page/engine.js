@@ -55,22 +55,24 @@ export class Engine {
   }
 
   async renew() {
+    this.module = null;
     this.module = new Module(await WebAssembly.instantiate(this.compiled));
   }
 
   // A call of the module. If it ends neither with an answer nor with a refusal, the module is made anew.
   called(call) {
+    if (!this.module) throw new Error('The module is made anew: try again.');
     try {
       return call(this.module);
     } catch (error) {
-      if (!(error instanceof Refused)) {
-        this.module = new Module(new WebAssembly.Instance(this.compiled));
-      }
-      throw new Error(error instanceof Refused ? REFUSED : `The module failed: ${error.message}`);
+      if (error instanceof Refused) throw new Error(REFUSED);
+      this.renew();
+      throw new Error(`The module failed: ${error.message}`);
     }
   }
 
   run(name, words, files, input) {
+    if (this.module && !this.module.calls[name]) throw new Error(`This module has no ${name}.`);
     const pairs = files.map(file => [file.name, file.bytes]);
     const answer = this.called(module => module.run(name, words, pairs, input));
     const made = new Map(answer.made.map(([path, bytes]) => [textOf(path), bytes]));

@@ -75,8 +75,12 @@ function isNarrow() {
 function fileTabs(page) {
   const { files } = page;
   const draw = () => {
-    byId('tabs').replaceChildren(...files.texts().map(file => make('button', { type: 'button', role: 'tab', 'aria-selected': String(file.name === files.open),
-      tabindex: file.name === files.open ? '0' : '-1', title: file.name, on: { click: () => files.show(file.name) } }, file.name)));
+    byId('tabs').replaceChildren(...files.texts().map(({ name }) => {
+      const isOpen = name === files.open;
+      const on = { click: () => files.show(name), dblclick: () => page.rename(name) };
+      return make('button', { type: 'button', role: 'tab', 'aria-selected': String(isOpen), tabindex: isOpen ? '0' : '-1', title: name, on }, name);
+    }));
+    byId('tabs').querySelector('[aria-selected=true]')?.scrollIntoView({ block: 'nearest', inline: 'nearest' });
   };
   tabKeys(byId('tabs'));
   files.onChange(what => {
@@ -101,7 +105,10 @@ async function taken(page, list) {
 }
 
 function drops(page) {
+  // Texts that are moved within the page are the browser's.
+  const hasFiles = event => event.dataTransfer.types.includes('Files');
   addEventListener('dragover', event => {
+    if (!hasFiles(event)) return;
     event.preventDefault();
     document.body.classList.add('drop');
   });
@@ -109,6 +116,7 @@ function drops(page) {
     if (!event.relatedTarget) document.body.classList.remove('drop');
   });
   addEventListener('drop', event => {
+    if (!hasFiles(event)) return;
     event.preventDefault();
     document.body.classList.remove('drop');
     page.taken([...event.dataTransfer.files]);
@@ -236,7 +244,8 @@ async function begin() {
   drops(page);
   const find = new Find(page.editor);
   keys(page, find);
-  new FilesDialog(page);
+  const dialog = new FilesDialog(page);
+  page.rename = name => dialog.rename(name);
   new ExamplesDialog(DATA.examples, example => takeExample(page, example));
   new OptionsDialog(options, isOtherProgram => {
     page.isStale ||= isOtherProgram;

@@ -1,6 +1,6 @@
 // The last change of a word or of a register before a step.
 
-import { register, word } from './engine.js';
+import { psw, register, word } from './engine.js';
 import { textOf } from './text.js';
 
 /** Runs up to this many steps are searched step by step, with the lines of m11-trace; longer ones by halving. */
@@ -17,6 +17,8 @@ export function wordAt(address) {
 export function registerOf(number, name) {
   return { name, field: new RegExp(`\\t${name} [0-7]`), value: state => register(state, number) };
 }
+
+export const STATUS = { name: 'PSW', field: /\tPSW /, value: psw };
 
 /**
  * Goes to before the last step that changed a thing. Returns that step, its values before and after, and whether another change may

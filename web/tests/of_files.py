@@ -205,3 +205,17 @@ def memory_may_be_refused(given):
     page.key("F9")
     page.wait("document.querySelector('#messages-list .error') !== null")
     check("no memory" in page.text("#messages-list"), page.text("#messages-list"))
+
+
+@test
+def a_module_that_fails_is_made_anew(given):
+    page = given.open(before="""const first = WebAssembly.instantiate;
+        WebAssembly.instantiate = async (...given) => {
+            const instance = await first(...given), isFirst = !window.made;
+            window.made = (window.made ?? 0) + 1;
+            return isFirst ? { exports: { ...instance.exports, m11_command: () => { throw new WebAssembly.RuntimeError('unreachable'); } } } : instance;
+        };""")
+    page.key("F9")
+    page.wait("document.querySelector('#messages-list').textContent.includes('The module failed: unreachable')")
+    page.wait("window.made === 2")
+    built(page)

@@ -29,6 +29,31 @@ def goes_back_to_a_mistake(given):
     page.wait(f"{STATE} === 'HALT AFTER 19 STEPS'")
     page.press_text("#registers button", "R1")
     page.wait(f"{STATE} === 'Nothing has changed R1 in these 19 steps.'")
+    # Step 18, a trap, clears the C that step 16 has set.
+    page.press_text("#registers button", "PSW")
+    page.wait(f"{STATE} === 'Step 18 changes PSW from 000001 to 000000.'")
+
+
+@test
+def goes_back_in_a_long_run(given):
+    page = given.open()
+    alone(page, LOOP)
+    page.press("#options")
+    page.press("#option-steps")
+    page.key("a", CONTROL)
+    page.type("2500000\n")
+    page.wait("!document.querySelector('#options-dialog').open")
+    page.key("F8")
+    page.wait(f"{STATE} === 'LIMIT AFTER 2500000 STEPS'", 120)
+    page.press_text("#registers button", "R0")
+    # Each odd step adds 1.
+    page.wait(f"{STATE}.startsWith('Step 2499999 changes R0 from {1249999 % 65536:06o} to {1250000 % 65536:06o}.')", 60)
+    check("may have been missed" in page.see(STATE), page.see(STATE))
+    page.press("#step-number")
+    page.key("a", CONTROL)
+    page.type("1000001\n")
+    page.wait(f"{STATE} === 'AFTER 1000001 STEPS'", 60)
+    same(page.text("#register-R0"), f"{500001 % 65536:06o}")
 
 
 @test
@@ -165,3 +190,24 @@ def long_outputs_do_not_freeze_the_page(given):
     check(time.monotonic() - begun < 3, "the page answers while a program prints")
     page.wait(f"{STATE} === 'LIMIT AFTER 1000000 STEPS'", 60)
     check(page.see(f"{SCREEN}.length") < 200000, "the screen has an end")
+
+
+@test
+def without_views_a_program_still_runs(given):
+    """Names and instructions are then missing, and nothing else."""
+    page = given.open(before="""const whole = WebAssembly.instantiate;
+        WebAssembly.instantiate = async (...given) => {
+            const { exports } = await whole(...given), left = { ...exports };
+            delete left.m11_dump;
+            delete left.m11_trace;
+            return { exports: left };
+        };""")
+    built(page)
+    check("no names" in page.text("#messages-list"), page.text("#messages-list"))
+    page.key("F8")
+    page.wait(f"{STATE}.startsWith('WAITS')")
+    page.press("#screen")
+    page.type("Ada\n")
+    page.wait(f"{SCREEN}.includes('from 1 to 100')")
+    page.press_text("#registers button", "R0")
+    page.wait("document.querySelector('#notice').textContent.includes('m11_trace')")
