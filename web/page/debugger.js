@@ -2,6 +2,7 @@
 
 import { bytesAt, memoryOf, register, word } from './engine.js';
 import { button, byId, make } from './elements.js';
+import { isCode } from './listing.js';
 import { backToChange, registerOf, STATUS, wordAt } from './search.js';
 import { fromOctal, octal, textOf } from './text.js';
 
@@ -135,7 +136,7 @@ export class Debugger {
 
   codeLine(row, shown, isNext, places) {
     const isBreak = this.page.breaks().has(row.address);
-    const dot = make('button', { type: 'button', class: 'dot', 'aria-pressed': String(isBreak), tabindex: isNext ? '0' : '-1',
+    const dot = make('button', { type: 'button', class: 'dot', 'aria-pressed': String(isBreak), tabindex: isNext ? '0' : '-1', disabled: !isCode(row),
       'aria-label': `Breakpoint at ${octal(row.address)}`, 'data-address': String(row.address) }, isBreak ? '●' : '○');
     const label = places.label(row.address);
     const source = row.file ? `${row.file}:${row.line}` : '';
@@ -178,7 +179,7 @@ export class Debugger {
       if (!byRow.has(number)) return { words: '', text: 'no memory here' };
       const words = wordsOf(contents[number]);
       const lines = byRow.get(number) ?? [];
-      const isData = /\.WORD\b/i.test(row.text ?? '') || lines.length > 1;
+      const isData = !isCode(row) || lines.length > 1;
       const data = `.WORD  ${words.map(one => one.toString(8)).join(',')}${row.size > 6 ? ' …' : ''}`;
       return { words: words.map(one => octal(one)).join(' '), text: isData ? data : lines[0]?.text ?? '' };
     });

@@ -104,6 +104,11 @@ export function readLoadMap(text) {
   return { parts, globals };
 }
 
+/** Whether a line stores instructions, as far as its text tells. */
+export function isCode(line) {
+  return !line.areBytes && !/\.(?:WORD|RAD50|LIMIT)\b/i.test(line.text ?? '');
+}
+
 /** The addresses of the lines of all modules, and the values of all names. */
 export class Places {
   constructor() {
@@ -144,7 +149,7 @@ export class Places {
     for (const line of this.lines) {
       if (!this.byAddress.has(line.address)) this.byAddress.set(line.address, line);
       const key = `${line.line} ${line.file}`;
-      if (line.file && !line.areBytes && !this.byLine.has(key)) this.byLine.set(key, line.address);
+      if (line.file && isCode(line) && !this.byLine.has(key)) this.byLine.set(key, line.address);
     }
   }
 

@@ -50,6 +50,8 @@ export class Machine {
     this.kept = [];
     this.gap = 0;
     this.slice = FIRST_SLICE;
+    // How many steps are tried at once with breakpoints.
+    this.reach = FIRST_SLICE;
     this.task = 0;
     this.isRunning = false;
     this.isAsking = false;
@@ -180,9 +182,10 @@ export class Machine {
    * fewer steps are tried, in the end one.
    */
   toBreak(breaks, limit, isThere) {
-    let most = limit;
+    let most = Math.min(limit, this.reach);
     for (;;) {
       const before = { state: this.state, steps: this.steps, consumed: this.consumed, printed: this.printed };
+      this.reach = 4 * most;
       if (most === 1) {
         const why = this.advance(1);
         return why || (breaks.has(this.pc) && isThere() ? 'break' : '');

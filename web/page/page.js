@@ -259,6 +259,8 @@ export class Page {
     if (now - this.drawnAt < DRAWN_EVERY && !this.machine.isAsking) return;
     this.drawnAt = now;
     this.debugger.draw({ isRunning: !this.machine.isAsking });
+    // While a program runs, a screen reader isn't told each number of steps.
+    byId('machine-state').setAttribute('aria-live', this.machine.isAsking ? 'polite' : 'off');
     byId('machine-state').textContent = this.machine.isAsking ? this.asking() : this.running(now);
     if (this.machine.isAsking) this.placed(false);
     this.drawControls();
@@ -279,6 +281,7 @@ export class Page {
     this.debugger.draw();
     this.outputs.draw();
     const report = this.report(why);
+    byId('machine-state').setAttribute('aria-live', 'polite');
     byId('machine-state').textContent = report || 'Loaded: no step was made yet.';
     this.console.report(machine.stop ? `${machine.report()}\n${registersLine(machine)}` : '');
     this.placed(machine.steps > 0 || why !== '');

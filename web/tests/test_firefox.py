@@ -109,21 +109,26 @@ def main(words):
         raise SystemExit(__doc__.split("\n", maxsplit=1)[0])
     program = next((path for path in map(shutil.which, NAMES) if path), None)
     if not program:
-        print(f"skipped: the test of the page in Firefox, since there is none ({', '.join(NAMES)})")
+        print(f"skipped, since there is no Firefox ({', '.join(NAMES)}): the game in Firefox\n0 passed, 0 failed, 1 skipped")
         return 0
     folder = tempfile.mkdtemp(prefix="m11-firefox-")
-    firefox = Firefox(program, folder)
+    firefox = None
     try:
+        firefox = Firefox(program, folder)
         plays(firefox, "file://" + urllib.parse.quote(os.path.abspath(words[0])))
         if words[1:]:
             firefox.type(F9)
             time.sleep(1)
             with open(words[1], "wb") as file:
                 file.write(base64.b64decode(firefox.call("WebDriver:TakeScreenshot", full=False)["value"]))
+    except (AssertionError, OSError, ValueError) as fault:
+        print(f"FAILED: the game in Firefox: {fault}\n0 passed, 1 failed")
+        return 1
     finally:
-        firefox.close()
+        if firefox:
+            firefox.close()
         shutil.rmtree(folder, ignore_errors=True)
-    print("passed: the game in Firefox")
+    print("1 passed, 0 failed")
     return 0
 
 

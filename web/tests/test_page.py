@@ -21,7 +21,8 @@ def main(words):
     if not words:
         raise SystemExit(__doc__.split("\n", maxsplit=1)[0])
     if not browser.found():
-        print(f"skipped: {len(TESTS)} tests of the page, since there is no Chromium ({', '.join(browser.NAMES)})")
+        print(f"skipped, since there is no Chromium ({', '.join(browser.NAMES)}): {', '.join(one.__name__ for one in TESTS)}")
+        print(f"0 passed, 0 failed, {len(TESTS)} skipped")
         return 0
     failed = 0
     chosen = [one for one in TESTS if not words[1:] or any(one.__name__.startswith(name) for name in words[1:])]
