@@ -249,6 +249,7 @@ export class Page {
       byId('machine-state').textContent = said;
     } catch (error) {
       this.notify(error.message);
+      this.stopped('');
     }
   }
 
