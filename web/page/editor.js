@@ -32,11 +32,11 @@ export class Editor {
     }
     const file = this.files.find(this.files.open);
     const source = file?.source ?? null;
-    for (const [source_, area] of this.areas) {
-      if (!this.files.list.some(one => one.source === source_)) {
-        area.remove();
-        this.areas.delete(source_);
-      } else area.hidden = source_ !== source;
+    for (const [owner, area] of this.areas) {
+      area.hidden = owner !== source;
+      if (this.files.list.some(one => one.source === owner)) continue;
+      area.remove();
+      this.areas.delete(owner);
     }
     this.name = source ? file.name : '';
     this.area = source ? this.areaOf(source) : null;

@@ -17,11 +17,16 @@ LOOP = "\t.TITLE\tLOOP\nSTART:\tINC\tR0\n\tBR\tSTART\n\t.END\tSTART\n"
 MARKUP = "<img src=x onerror=\"window.harmed=1\"><script>window.harmed=1</script>"
 HOSTILE_NAME = "<img src=x onerror=harmed=1>&amp;\"'.MAC"
 TESTS = []
+TOP = os.path.dirname(os.path.dirname(os.path.dirname(os.path.abspath(__file__))))
 
 
 def test(function):
     TESTS.append(function)
     return function
+
+
+class Skipped(Exception):
+    """What a test needs that isn't there."""
 
 
 def check(is_so, what):

@@ -1,8 +1,12 @@
 """Tests of the page: steps, breakpoints and long runs."""
+import os
+import platform
+import subprocess
+import sys
 import time
 
 from browser import CONTROL, SHIFT
-from given import LOOP, SCREEN, STATE, alone, built, check, example, same, screen, test, value
+from given import LOOP, SCREEN, STATE, TOP, Skipped, arrived, alone, built, check, example, same, screen, test, value
 
 
 @test
@@ -32,6 +36,38 @@ def goes_back_to_a_mistake(given):
     # Step 18, a trap, clears the C that step 16 has set.
     page.press_text("#registers button", "PSW")
     page.wait(f"{STATE} === 'Step 18 changes PSW from 000001 to 000000.'")
+
+
+@test
+def each_step_is_that_of_the_simulator(given):
+    """Registers and output at steps in no order, beside `m11 sim -n` with the same tape and input."""
+    m11 = os.path.join(TOP, "dist", "m11")
+    if not (os.path.exists(m11) and sys.platform == "linux" and platform.machine() == "x86_64"):
+        raise Skipped("dist/m11 doesn't run here")
+    page = given.open()
+    given.browser.call("Browser.setDownloadBehavior", behavior="allow", downloadPath=given.folder)
+    built(page)
+    page.press("#tab-tape")
+    page.press("#download-one")
+    tape = os.path.join(given.folder, "GUESS.TAP")
+    arrived(tape)
+    page.press("#tab-run")
+    page.key("F8")
+    page.wait(f"{STATE}.startsWith('WAITS')")
+    page.press("#screen")
+    page.type("Ada\n50\n23\n")
+    page.wait(f"{STATE} === 'HALT AFTER 1075 STEPS'")
+    for steps in (1074, 3, 600, 599, 181, 1000, 1, 875, 180, 1075):
+        page.press("#step-number")
+        page.key("a", CONTROL)
+        page.type(f"{steps}\n")
+        page.wait(f"{STATE}.endsWith('AFTER {steps} STEPS')")
+        done = subprocess.run([m11, "sim", f"-n{steps}", tape], input=b"Ada\n50\n23\n", capture_output=True, check=False)
+        registers = " ".join(f"{name} {page.text('#register-' + name)}" for name in "R0 R1 R2 R3 R4 R5 SP PC PSW".split())
+        same(registers, done.stderr.decode().split("\n")[1])
+        page.see("new Promise(resolve => requestAnimationFrame(() => requestAnimationFrame(resolve)))")
+        printed = page.see("[...document.querySelector('#screen-text').childNodes].filter(one => one.nodeType === 3).map(one => one.textContent).join('')")
+        same(printed.replace("\n", ""), done.stdout.decode().replace("\n", ""))
 
 
 @test

@@ -1,5 +1,5 @@
 #!/usr/bin/env python3
-"""Plays the game of the page in Firefox, by its keys, over Marionette: web/tests/test_firefox.py PAGE.html [PICTURE.png]
+"""Plays the game of the page in Firefox, and finds a mistake, by keys and mouse over Marionette: web/tests/test_firefox.py PAGE.html [PICTURE.png]
 
 Without Firefox it says that the test is skipped."""
 import base64
@@ -76,6 +76,10 @@ class Firefox:
         actions = [{"type": kind, "value": key} for key in keys for kind in ("keyDown", "keyUp")]
         self.call("WebDriver:PerformActions", actions=[{"type": "key", "id": "keys", "actions": actions}])
 
+    def press(self, selector):
+        found = self.call("WebDriver:FindElement", using="css selector", value=selector)["value"]
+        self.call("WebDriver:ElementClick", id=next(iter(found.values())))
+
     def close(self):
         try:
             self.call("Marionette:Quit", flags=["eForceQuit"])
@@ -104,25 +108,46 @@ def plays(firefox, url):
     same(firefox.see("document.querySelector('#notice').hidden"), True)
 
 
+def goes_back(firefox):
+    """An example with a mistake: a line that is flagged, and the way back to the mistake."""
+    firefox.press("#examples")
+    firefox.press("#examples-list li:nth-child(3) .example")
+    firefox.wait("document.querySelector('#machine-state').textContent.startsWith('Loaded')")
+    firefox.type(F8)
+    firefox.wait("document.querySelector('#machine-state').textContent === 'HALT AFTER 19 STEPS'")
+    for step in ("Step 17 changes R4 from 001014 to 001016.", "Step 16 changes R4 from 001024 to 001014."):
+        firefox.press("[title='Back to before the last change of R4']")
+        firefox.wait(f"document.querySelector('#machine-state').textContent === '{step}'")
+    same(firefox.see("document.querySelector('#editor-layer .next').textContent"), "\tADD\t(R4),R4")
+    firefox.press("#editor .source:not([hidden])")
+    firefox.type("\ue010 R5 ")
+    firefox.type(F9)
+    firefox.wait("document.querySelectorAll('#messages-list .error').length === 1")
+    firefox.press("#messages-list .leads")
+    check(firefox.see("document.activeElement.value.slice(document.activeElement.selectionStart, document.activeElement.selectionEnd)").count("R5") == 1,
+          "the message leads to its line")
+
+
 def main(words):
     if not words:
         raise SystemExit(__doc__.split("\n", maxsplit=1)[0])
     program = next((path for path in map(shutil.which, NAMES) if path), None)
     if not program:
-        print(f"skipped, since there is no Firefox ({', '.join(NAMES)}): the game in Firefox\n0 passed, 0 failed, 1 skipped")
+        print(f"skipped, since there is no Firefox ({', '.join(NAMES)}): the page in Firefox\n0 passed, 0 failed, 1 skipped")
         return 0
     folder = tempfile.mkdtemp(prefix="m11-firefox-")
     firefox = None
     try:
         firefox = Firefox(program, folder)
         plays(firefox, "file://" + urllib.parse.quote(os.path.abspath(words[0])))
+        goes_back(firefox)
         if words[1:]:
             firefox.type(F9)
             time.sleep(1)
             with open(words[1], "wb") as file:
                 file.write(base64.b64decode(firefox.call("WebDriver:TakeScreenshot", full=False)["value"]))
     except (AssertionError, OSError, ValueError) as fault:
-        print(f"FAILED: the game in Firefox: {fault}\n0 passed, 1 failed")
+        print(f"FAILED: the page in Firefox: {fault}\n0 passed, 1 failed")
         return 1
     finally:
         if firefox:

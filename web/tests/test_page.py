@@ -14,7 +14,7 @@ import of_files  # noqa: F401: each of these adds its tests
 import of_programs  # noqa: F401
 import of_the_machine  # noqa: F401
 import of_the_page  # noqa: F401
-from given import TESTS, Given
+from given import TESTS, Given, Skipped
 
 
 def main(words):
@@ -24,7 +24,7 @@ def main(words):
         print(f"skipped, since there is no Chromium ({', '.join(browser.NAMES)}): {', '.join(one.__name__ for one in TESTS)}")
         print(f"0 passed, 0 failed, {len(TESTS)} skipped")
         return 0
-    failed = 0
+    failed, skipped = 0, 0
     chosen = [one for one in TESTS if not words[1:] or any(one.__name__.startswith(name) for name in words[1:])]
     for one in chosen:
         begun = time.monotonic()
@@ -33,6 +33,9 @@ def main(words):
         try:
             one(given)
             print(f"passed {one.__name__} ({time.monotonic() - begun:.1f} s)", flush=True)
+        except Skipped as why:
+            skipped += 1
+            print(f"skipped {one.__name__}: {why}", flush=True)
         except Exception:  # noqa: BLE001: any fault of a test is told, and the others are run
             failed += 1
             trace = io.StringIO()
@@ -45,7 +48,7 @@ def main(words):
         finally:
             given.browser.close()
             shutil.rmtree(folder, ignore_errors=True)
-    print(f"{len(chosen) - failed} passed, {failed} failed")
+    print(f"{len(chosen) - failed - skipped} passed, {failed} failed" + (f", {skipped} skipped" if skipped else ""))
     return 1 if failed or not chosen else 0
 
 
