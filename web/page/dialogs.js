@@ -96,7 +96,9 @@ export class FilesDialog {
 
   async rename(name) {
     const wanted = await askName(`Rename ${name}`, 'Rename', name, text => (text === name ? '' : this.files.fault(text)));
-    if (wanted !== null) this.files.rename(name, wanted);
+    if (wanted === null || this.files.rename(name, wanted)) return;
+    this.page.marks.rename(name, wanted);
+    this.page.marked();
   }
 
   async remove(name) {

@@ -53,6 +53,7 @@ export class Marks {
   }
 
   rename(from, to) {
+    if (from === to) return;
     for (const marks of [this.breaks, this.flagged]) {
       if (marks.has(from)) marks.set(to, marks.get(from));
       marks.delete(from);

@@ -100,7 +100,7 @@ export class Page {
 
   // --- building ---
 
-  /** Assembles and links. Returns whether there is a tape to run. */
+  /** Assembles and links, and puts the tape into a new machine. */
   build() {
     this.machine?.halt();
     this.machine = null;
@@ -109,7 +109,8 @@ export class Page {
     } catch (error) {
       this.built = null;
       this.shown([{ isError: true, text: error.message }]);
-      return false;
+      this.unloaded();
+      return;
     }
     this.isStale = false;
     this.marks.next = null;
@@ -118,7 +119,6 @@ export class Page {
     this.outputs.attach(this.built);
     if (this.built.isGood) this.load();
     else this.unloaded();
-    return this.built.isGood && this.machine !== null;
   }
 
   shown(messages) {

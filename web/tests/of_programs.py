@@ -8,6 +8,7 @@ from given import GAME, SCREEN, STATE, alone, built, check, example, same, scree
 @test
 def plays_the_game(given):
     page = given.open()
+    print(f"    the page was ready after {page.see('Math.round(performance.getEntriesByName(`ready`)[0].startTime)')} ms")
     page.press("#build")
     page.wait("document.querySelector('#messages-list').textContent.includes('GUESS.TAP is linked')")
     same(page.text("#messages-list"), "GUESS.MAC: ERRORS DETECTED: 0 CONSOL.MAC: ERRORS DETECTED: 0 GUESS.TAP is linked. ")

@@ -178,6 +178,10 @@ def breakpoints_move_with_their_lines(given):
     page.wait("document.querySelector('[data-line=\"10\"]').classList.contains('break')")
     page.key("z", CONTROL)
     page.wait("document.querySelector('.number.break').dataset.line !== '10'")
+    page.see("document.querySelector('#tabs [aria-selected=true]').dispatchEvent(new MouseEvent('dblclick', { bubbles: true }))")
+    page.key("a", CONTROL)
+    page.type("GAME.MAC\n")
+    page.wait("document.querySelector('#tabs [aria-selected=true]').textContent === 'GAME.MAC' && document.querySelectorAll('.number.break').length === 1")
 
 
 @test
