@@ -14,6 +14,7 @@ import { fromBase64 } from './text.js';
 const DATA = '@DATA@';
 const LARGEST_FILE = 16 * 1024 * 1024;
 const THEMES = ['Auto', 'Light', 'Dark'];
+const SYSTEM = matchMedia('(prefers-color-scheme: dark)');
 
 const settings = { theme: 'Auto' };
 const options = { steps: 1000000, bottom: '', start: '', words: '' };
@@ -29,7 +30,8 @@ function notify(text, choices = {}) {
 function setTheme(theme) {
   settings.theme = THEMES.includes(theme) ? theme : 'Auto';
   byId('theme-word').textContent = settings.theme;
-  document.documentElement.dataset.theme = settings.theme.toLowerCase();
+  const isDark = settings.theme === 'Dark' || (settings.theme === 'Auto' && SYSTEM.matches);
+  document.documentElement.dataset.theme = isDark ? 'dark' : 'light';
 }
 
 /** The parts of the page on a narrow screen, one at a time. */
@@ -266,4 +268,5 @@ async function begin() {
 }
 
 setTheme('Auto');
+SYSTEM.addEventListener('change', () => setTheme(settings.theme));
 begin().catch(error => notify(`This browser can’t run the module: ${error.message}`));

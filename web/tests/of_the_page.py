@@ -121,7 +121,7 @@ def hostile_texts_are_only_texts(given):
         page.press(f"#tab-{panel}")
     page.press("#tab-run")
     same(page.see("document.querySelectorAll('img').length"), 0)
-    same(page.see("document.querySelectorAll('script').length"), 1)
+    same(page.see("document.querySelectorAll('script').length"), 2)
     page.reload()
     check(HOSTILE_NAME in page.text("#tabs"), page.text("#tabs"))
     page.harmless()
