@@ -20,6 +20,7 @@ export class Editor {
     this.name = '';
     this.starts = [0];
     this.frame = 0;
+    this.found = null;
     this.gutter.addEventListener('click', event => this.clicked(event));
     new ResizeObserver(() => this.redraw()).observe(this.host);
   }
@@ -38,6 +39,7 @@ export class Editor {
       area.remove();
       this.areas.delete(owner);
     }
+    this.found = null;
     this.name = source ? file.name : '';
     this.area = source ? this.areaOf(source) : null;
     this.host.classList.toggle('empty', !source);
@@ -65,6 +67,7 @@ export class Editor {
   }
 
   edited() {
+    this.found = null;
     const lines = this.starts.length;
     this.files.edit(this.name, this.area.value);
     this.counted();
@@ -116,7 +119,7 @@ export class Editor {
     this.layer.style.transform = `translate(${-this.area.scrollLeft}px, ${at}px)`;
     this.gutter.style.transform = `translateY(${at}px)`;
     const current = this.lineOfCaret();
-    this.layer.replaceChildren(...(isPlain ? [] : lines.map((line, number) => this.drawn(line, first + number, current))));
+    this.layer.replaceChildren(...(isPlain ? [] : lines.map((line, number) => this.drawn(line, first + number, current))), ...this.foundMark(first, last));
     this.gutter.replaceChildren(...lines.map((_, number) => this.numbered(first + number)));
   }
 
@@ -134,6 +137,25 @@ export class Editor {
     if (marks.isNext) element.classList.add('next');
     if (marks.isFlagged) element.classList.add('flagged');
     return element;
+  }
+
+  // The place of what was found, by columns, if its line is drawn.
+  foundMark(first, last) {
+    if (!this.found) return [];
+    const number = this.lineAt(this.found.begin);
+    if (number < first || number > last) return [];
+    const begin = columns(this.text.slice(this.starts[number], this.found.begin));
+    const mark = make('div', { class: 'found' });
+    mark.style.top = `calc(${number - first} * 20px)`;
+    mark.style.left = `${begin}ch`;
+    mark.style.width = `${columns(this.text.slice(this.starts[number], this.found.end)) - begin}ch`;
+    return [mark];
+  }
+
+  /** What was found is marked no more. */
+  forgetFound() {
+    this.found = null;
+    this.redraw();
   }
 
   numbered(number) {
@@ -185,9 +207,10 @@ export class Editor {
     this.area.scrollLeft = 0;
   }
 
-  /** Selects a part of the text, and scrolls to it. */
+  /** Selects a part of the text, marks it, since a text area without the focus shows no selection, and scrolls to it. */
   select(begin, end) {
     this.area.setSelectionRange(begin, end);
+    this.found = { begin, end };
     const number = this.lineAt(begin);
     this.reveal(number);
     const column = columns(this.text.slice(this.starts[number], end));

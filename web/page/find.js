@@ -28,6 +28,7 @@ export class Find {
 
   close() {
     this.bar.hidden = true;
+    this.editor.forgetFound();
     this.editor.area?.focus();
   }
 
@@ -58,6 +59,7 @@ export class Find {
     if (at < 0) at = by > 0 ? text.indexOf(sought) : text.lastIndexOf(sought);
     if (at < 0) {
       count.textContent = 'not found';
+      this.editor.forgetFound();
       return;
     }
     const places = text.split(sought).length - 1;

@@ -23,6 +23,10 @@ def the_editor_has_the_usual_keys(given):
     same(page.text("#find-count"), "1 of 2")
     page.key("Enter")
     same(page.text("#find-count"), "2 of 2")
+    page.wait("document.querySelector('.found')?.getBoundingClientRect().width > 10")
+    same(page.see("""(() => { const mark = document.querySelector('.found').getBoundingClientRect(), range = document.createRange();
+        const place = [...document.querySelectorAll('#editor-layer .is-register')].at(-1); range.selectNodeContents(place);
+        const box = range.getBoundingClientRect(); return Math.abs(mark.left - box.left) < 1 && Math.abs(mark.width - box.width) < 1; })()"""), True)
     page.key("Escape")
     same(selected(page), "R0")
     page.wait("document.querySelector('#editor-layer .is-instruction')")
