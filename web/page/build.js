@@ -30,7 +30,7 @@ class Built {
 /** Assembles and links the files. */
 export function build(engine, files, options) {
   const built = new Built();
-  const plan = planOf(files);
+  const plan = { modules: planOf(files, built) };
   if (!plan.modules.length) return tapeAlone(files, built);
   for (const module of plan.modules) {
     if (module.sources.length) assemble(engine, files, module, built);
@@ -41,28 +41,28 @@ export function build(engine, files, options) {
   return built;
 }
 
-// The modules in their order: each source with those before it, and each object.
-function planOf(files) {
+// The modules in their order: each source with those before it, and each object. An object of a source that is there is left out, since
+// the source makes it: so files of a download can be taken in again, all together.
+function planOf(files, built) {
+  const parts = files.list.filter(file => file.role === 'module' && (file.source || OBJECT.test(file.name)));
+  const sources = parts.filter(file => file.source);
+  const made = new Set(sources.map(file => stem(file.name).toUpperCase()));
+  const isMade = file => !file.source && made.has(stem(file.name).toUpperCase());
+  for (const file of parts.filter(isMade)) built.messages.push({ text: `${file.name} is left out: a source makes it.` });
   const before = files.list.filter(file => file.role === 'before' && file.source);
   const taken = new Set();
-  const modules = [];
-  for (const file of files.list) {
-    if (file.role !== 'module' || TAPE.test(file.name)) continue;
-    if (OBJECT.test(file.name)) {
-      modules.push({ name: stem(file.name), object: file.name, file, sources: [] });
-    } else if (file.source) {
-      modules.push({ name: stem(file.name), object: '', file, sources: [...before, file] });
-    }
-  }
-  for (const module of modules) if (module.object) taken.add(module.object);
-  for (const module of modules) {
-    for (let number = 1; !module.object; number += 1) {
-      const name = `${module.name}${number > 1 ? '-' + number : ''}.OBJ`;
-      if (!taken.has(name)) module.object = name;
-    }
-    taken.add(module.object);
-  }
-  return { modules };
+  return parts.filter(file => !isMade(file)).map(file => {
+    const name = stem(file.name);
+    const object = file.source ? unusedObject(name, taken) : file.name;
+    taken.add(object);
+    return { name, object, file, sources: file.source ? [...before, file] : [] };
+  });
+}
+
+function unusedObject(name, taken) {
+  let object = `${name}.OBJ`;
+  for (let number = 2; taken.has(object); number += 1) object = `${name}-${number}.OBJ`;
+  return object;
 }
 
 // Without a module a tape from elsewhere is what is run.

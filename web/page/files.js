@@ -76,7 +76,8 @@ export class Files {
     this.open = open;
     for (const { name, bytes, role } of list) {
       const safe = this.unused(tamed(name));
-      this.list.push({ name: safe, role: Object.hasOwn(ROLES, role ?? '') ? role : roleOf(safe), bytes, source: isText(safe, bytes) ? sourceOf(bytes) : null });
+      const known = Object.hasOwn(ROLES, role ?? '') ? role : roleOf(safe);
+      this.list.push({ name: safe, role: known, bytes, source: isText(safe, bytes) ? sourceOf(bytes) : null });
     }
     if (!this.find(open)?.source) this.open = this.texts()[0]?.name ?? '';
     this.changed('all');

@@ -78,6 +78,7 @@ def downloads_are_whole(given):
                                                  "GUESS.LOAD.MAP"]))
         same(archive.read("GUESS.MAC").decode(), value(page))
         tape = archive.read("GUESS.TAP")
+        archive.extractall(os.path.join(given.folder, "all"))
     page.press("[aria-label='Download GUESS.MAC']")
     arrived(os.path.join(given.folder, "GUESS.MAC"))
     page.press("#files-dialog [data-close]")
@@ -86,6 +87,14 @@ def downloads_are_whole(given):
     arrived(os.path.join(given.folder, "GUESS.TAP"))
     with open(os.path.join(given.folder, "GUESS.TAP"), "rb") as file:
         same(file.read(), tape)
+    # All of it can be taken in again.
+    folder = os.path.join(given.folder, "all")
+    page.give_files("#pick-files", [os.path.join(folder, name) for name in os.listdir(folder) if not name.endswith(".MAC")])
+    page.press("#files")
+    page.wait("document.querySelectorAll('.file').length === 9")
+    page.press("#files-dialog [data-close]")
+    built(page)
+    check("GUESS.OBJ is left out" in page.text("#messages-list"), page.text("#messages-list"))
 
 
 @test
