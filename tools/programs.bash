@@ -19,6 +19,12 @@ crate_of() {
     esac
 }
 
+# The names of what there is in dist/ beside the programs: a page with a module of WebAssembly, and the module for Node. Both are made of the
+# crate m11_web and of web/, and the page has the examples too.
+web_names() {
+    [[ ! -d $top/web ]] || echo m11.html m11.mjs
+}
+
 # The lines of crates.txt, in this folder, of these crates and of those that they stand on.
 lists() {
     local from=$1
@@ -46,15 +52,21 @@ parts() {
 }
 
 # A sum of the lines and of all the sources, in this folder, of the program with this name: those of its crate and of the crates that it stands
-# on. It is the same wherever they lie.
+# on, and for the page and the module for Node what else they are made of. It is the same wherever they lie.
 sum_of_sources() {
     local crate
-    local -a here
-    crate=$(crate_of "$2") || return
+    local -a here others=()
+    case $2 in
+        m11.html | m11.mjs) crate=m11_web others=(web examples) ;;
+        *) crate=$(crate_of "$2") || return ;;
+    esac
     mapfile -t here < <(lists "$1" "$crate" | parts "$1" src specs proofs)
     {
         lists "$1" "$crate"
-        cd -- "$1" && find "${here[@]}" -type f \( -name '*.rt' -o -name '*.antt' \) -print0 | LC_ALL=C sort -z | xargs -0 sha256sum
+        cd -- "$1" && {
+            find "${here[@]}" -type f \( -name '*.rt' -o -name '*.antt' \) -print0
+            ((${#others[@]} == 0)) || find "${others[@]}" -name tests -prune -o -name __pycache__ -prune -o -type f -print0
+        } | LC_ALL=C sort -z | xargs -0 sha256sum
     } | sha256sum | cut -d ' ' -f 1
 }
 
@@ -102,10 +114,10 @@ take_built() {
     done
 }
 
-# Whether dist/ is of these sources. Says why not, for each program.
+# Whether dist/ is of these sources. Says why not, for each program, and for the page and the module for Node.
 is_dist_of_sources() {
     local name status=0
-    for name in "${names[@]}"; do
+    for name in "${names[@]}" $(web_names); do
         if [[ ! -f $top/dist/$name || -z $(told "$top/dist" "$name" sha256) ]]; then
             echo "dist/ has no $name, or its MANIFEST doesn't name it"
         elif [[ $(sum_of_file "$top/dist/$name") != "$(told "$top/dist" "$name" sha256)" ]]; then
