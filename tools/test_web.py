@@ -14,16 +14,6 @@ import tempfile
 TOP = os.path.dirname(os.path.dirname(os.path.realpath(__file__)))
 LEAST_NODE = 20
 MODULE = re.compile(rb'^await main\("([A-Za-z0-9+/=]+)"\);$', re.M)
-# Calls that both programs make: words, and what standard input has.
-SOURCE = "examples/asm/primes/PRIMES.MAC"
-CALLS = (
-    (["asm", "-o", "P.OBJ", "-l", "P.LST", SOURCE], b""), (["link", "-o", "P.TAP", "-m", "P.MAP", "P.OBJ"], b""), (["sim", "P.TAP"], b""),
-    (["sim", "-n", "100", "P.TAP"], b""), (["sim", "examples/sim/ECHO.TAP"], b"What was typed.\n\x00\xff"), (["asm", "-o", "N.OBJ", "NOT.THERE"], b""),
-    (["link", "-o", "N.TAP", SOURCE], b""), (["sim", "P.OBJ"], b""), (["asm"], b""), (["sim", "-n", "many", "P.TAP"], b""), (["--help"], b""), ([], b""),
-)
-MADE = ("P.OBJ", "P.LST", "P.TAP", "P.MAP")
-
-
 class Counts:
     """What passed and failed."""
 
@@ -39,17 +29,13 @@ class Counts:
             print(f"{name}: {found!r} in place of {wanted!r}")
 
     def add(self, name, words, pattern):
-        """Runs a test that counts by itself: so many of so many hold."""
+        """Runs a test that counts by itself what holds, and prints what it says if something doesn't."""
         ran = subprocess.run(words, cwd=TOP, stdout=subprocess.PIPE, stderr=subprocess.STDOUT, text=True, errors="replace", check=False)
         counts = re.search(pattern, ran.stdout)
-        if not counts or (ran.returncode == 0) != (counts[1] == counts[2]):
+        self.passed += int(counts[1]) if counts else 0
+        if not counts or ran.returncode:
             self.failed += 1
-            print(f"{name}: it ended with status {ran.returncode}: {ran.stdout[-400:]}")
-            return
-        self.passed += int(counts[1])
-        self.failed += int(counts[2]) - int(counts[1])
-        if counts[1] != counts[2]:
-            print(ran.stdout)
+            print(f"{name}: it ended with status {ran.returncode}:\n{ran.stdout.rstrip()}")
 
 
 def version_of_node():
@@ -60,28 +46,6 @@ def version_of_node():
         return 0
     number = re.match(r"v(\d+)\.", ran.stdout)
     return int(number[1]) if number else 0
-
-
-def outcome(words, typed, folder):
-    """What a call prints and reports, its status, and the files that it leaves."""
-    ran = subprocess.run(words, input=typed, cwd=folder, capture_output=True, check=False)
-    files = {}
-    for name in MADE:
-        if os.path.exists(os.path.join(folder, name)):
-            with open(os.path.join(folder, name), "rb") as file:
-                files[name] = file.read()
-    return ran.returncode, ran.stdout, ran.stderr, files
-
-
-def test_calls(counts, folder):
-    """The program for Node does what m11 does, in the same folder each."""
-    with tempfile.TemporaryDirectory() as native, tempfile.TemporaryDirectory() as lowered:
-        for place in (native, lowered):
-            os.symlink(os.path.join(TOP, "examples"), os.path.join(place, "examples"))
-        for words, typed in CALLS:
-            wanted = outcome([os.path.join(folder, "m11"), *words], typed, native)
-            found = outcome(["node", os.path.join(folder, "m11.mjs"), *words], typed, lowered)
-            counts.expect(f"node m11.mjs {' '.join(words)}", found, wanted)
 
 
 def main(words):
@@ -104,9 +68,10 @@ def main(words):
             module = os.path.join(room, "m11.wasm")
             with open(module, "wb") as file:
                 file.write(base64.b64decode(coded[1]))
-            counts.add("suite", ["node", "web/tests/suite.mjs", module], r"(\d+) of (\d+) cases hold")
-            counts.add("limits", ["node", "web/tests/limits.mjs", module], r"(\d+) of (\d+) sizes hold")
-        test_calls(counts, folder)
+            counts.add("suite", ["node", "web/tests/suite.mjs", module], r"(\d+) of \d+ cases hold")
+            counts.add("limits", ["node", "web/tests/limits.mjs", module], r"(\d+) of \d+ sizes hold")
+        program = [os.path.join(folder, name) for name in ("m11.mjs", "m11")]
+        counts.add("the program for Node", [sys.executable, "web/tests/node.py", *program], r"(\d+) calls are the same")
     print(f"{counts.passed} passed, {counts.failed} failed")
     return 1 if counts.failed else 0
 

@@ -23,7 +23,7 @@ struct head {
     struct head *next; /* while the block is free */
 };
 
-enum { PAGE = 65536, LEAST_POWER = 4, MOST_POWER = 31, LEAST_PAGES = 16 };
+enum { PAGE = 65536, LEAST_POWER = 4, MOST_POWER = 31 };
 
 static const word REFUSED = 0xFFFFFFFF;
 
@@ -48,8 +48,6 @@ static int has_room(word bytes) {
     if (bytes <= end - next_at)
         return 1;
     word pages = (bytes + PAGE - 1) / PAGE;
-    if (pages < LEAST_PAGES)
-        pages = LEAST_PAGES;
     word first = __builtin_wasm_memory_grow(0, pages);
     if (first >= REFUSED)
         return 0;

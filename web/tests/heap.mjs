@@ -56,7 +56,7 @@ async function testReuse() {
     check("a block that isn't freed isn't", heap.take(128) !== first);
     const pages = heap.memory.buffer.byteLength;
     for (let round = 0; round < 100000; round++) heap.giveBack(heap.take(1000));
-    check("blocks that are freed cost no memory", heap.memory.buffer.byteLength <= pages + 16 * PAGE);
+    check("blocks that are freed cost no memory", heap.memory.buffer.byteLength <= pages + PAGE);
 }
 
 async function testResize() {

@@ -38,12 +38,13 @@ function limited(most) {
     return Buffer.concat([bytes.subarray(0, section.at), Buffer.from([5, ...coded(content.length), ...content]), bytes.subarray(section.end)]);
 }
 
-const source = Buffer.from(`${"LABEL: MOV #12345,@#1000 ; a line\n".repeat(1)}${"\tMOV\tR0,R1\n".repeat(3000)}\t.END\n`);
-const words = ["m11", "asm", "-o", "P.OBJ", "-l", "P.LST", "P.MAC"];
+// A source of 4,000 names, of which the assembler keeps a table.
+const source = Buffer.from(`${Array.from({ length: 4000 }, (_, at) => `N${at} = ${at % 8}\n`).join("")}\t.END\n`);
+const words = ["m11", "asm", "-o", "P.OBJ", "P.MAC"];
 const seen = { refused: 0, "status 5": 0, whole: 0 };
 let wrong = 0;
 const whole = (await Module.from(bytes)).run("m11_command", words, [["P.MAC", source]]);
-for (let more = 0; more <= 200; more += 5) {
+for (let more = 0; more <= 120; more += 2) {
     const module = await Module.from(limited(section.least + more));
     try {
         const answer = module.run("m11_command", words, [["P.MAC", source]]);
