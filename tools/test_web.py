@@ -14,6 +14,8 @@ import tempfile
 TOP = os.path.dirname(os.path.dirname(os.path.realpath(__file__)))
 LEAST_NODE = 20
 MODULE = re.compile(rb'^await main\("([A-Za-z0-9+/=]+)"\);$', re.M)
+
+
 class Counts:
     """What passed and failed."""
 
