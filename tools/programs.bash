@@ -19,10 +19,10 @@ crate_of() {
     esac
 }
 
-# The names of what there is in dist/ beside the programs: a page with a module of WebAssembly, and the module for Node. Both are made of the
-# crate m11_web and of web/, and the page has the examples too.
+# The names of what there is in dist/ beside the programs, if web/dist has put it there: a page with a module of WebAssembly, and the module for Node.
+# Both are made of the crate m11_web and of web/, and the page has the examples too.
 web_names() {
-    [[ ! -d $top/web ]] || echo m11.html m11.mjs
+    [[ ! -e $top/dist/m11.html ]] || echo m11.html m11.mjs
 }
 
 # The lines of crates.txt, in this folder, of these crates and of those that they stand on.
