@@ -1,7 +1,7 @@
 // Assembling and linking: the calls for the files as they are, and what came of them.
 
 import { OBJECT, TAPE, stem } from './files.js';
-import { Places, readListing, readLoadMap } from './listing.js';
+import { nextParts, Places, readListing, readLoadMap, readMap } from './listing.js';
 import { lineCount, textOf, utf8 } from './text.js';
 import { faultWords, flagWords, linkWords } from './words.js';
 
@@ -168,32 +168,43 @@ function whereNamed(plan, name) {
 // The places of all lines and names. A program runs without them too.
 function named(engine, built, plan, options) {
   try {
-    place(engine, built, plan, options);
+    if (engine.hasViews) placeByLoadMap(engine, built, plan, options);
+    else placeByMap(engine, built, plan);
   } catch (error) {
     built.messages.push({ text: `There are no names of addresses: ${error.message}` });
   }
   built.places.finish();
 }
 
-// The load map, and the places of all lines of sources.
-function place(engine, built, plan, options) {
+// By the load map of m11-dump, which knows the parts of objects from elsewhere too.
+function placeByLoadMap(engine, built, plan, options) {
   const objects = plan.modules.map(module => ({ name: module.object, bytes: built.outputs.get(module.object) ?? module.file.bytes }));
   const answer = engine.dump(['m11-dump', '-m', ...bottomOf(options), '--', ...objects.map(object => object.name)], objects);
-  if (answer.status === 0) {
-    built.loadMapName = `${plan.modules[0].name}.LOAD.MAP`;
-    built.outputs.set(built.loadMapName, answer.output);
-    const map = readLoadMap(textOf(answer.output));
-    let at = 0;
-    for (const module of plan.modules) {
-      const listing = module.sources.length ? wholeListing(engine, module) : null;
-      const size = listing ? listing.sections.length : partsOf(engine, module);
-      const parts = map.parts.slice(at, at + size);
-      at += size;
-      if (!listing || !parts.every((part, number) => part.section === listing.sections[number]?.name)) continue;
-      built.places.addModule(listing, parts.map(part => part.address), number => lineOf(module, number));
-    }
-    built.places.addNames(map.globals);
+  if (answer.status !== 0) return;
+  built.loadMapName = `${plan.modules[0].name}.LOAD.MAP`;
+  built.outputs.set(built.loadMapName, answer.output);
+  const map = readLoadMap(textOf(answer.output));
+  let at = 0;
+  for (const module of plan.modules) {
+    const listing = module.sources.length ? wholeListing(engine, module) : null;
+    const size = listing ? listing.sections.length : partsOf(engine, module);
+    const parts = map.parts.slice(at, at + size);
+    at += size;
+    if (!listing || !parts.every((part, number) => part.section === listing.sections[number]?.name)) continue;
+    built.places.addModule(listing, parts.map(part => part.address), number => lineOf(module, number));
   }
+  built.places.addNames(map.globals);
+}
+
+// By the map of the link and the listings: up to the first object from elsewhere, whose sizes neither of them has.
+function placeByMap(engine, built, plan) {
+  const map = readMap(textOf(built.outputs.get(built.mapName)));
+  for (const module of plan.modules) {
+    const listing = module.sources.length ? wholeListing(engine, module) : null;
+    if (!listing) break;
+    built.places.addModule(listing, nextParts(map, listing), number => lineOf(module, number));
+  }
+  built.places.addNames(map.globals);
 }
 
 // A line of a listing that has the lines of expansions: the source that lists them is its first line.

@@ -3,7 +3,7 @@
 import { bytesAt, memoryOf, register, word } from './engine.js';
 import { button, byId, make } from './elements.js';
 import { isCode } from './listing.js';
-import { backToChange, registerOf, STATUS, wordAt } from './search.js';
+import { backToChange, isSearchWhole, registerOf, STATUS, wordAt } from './search.js';
 import { fromOctal, octal, textOf } from './text.js';
 
 const NAMES = ['R0', 'R1', 'R2', 'R3', 'R4', 'R5', 'SP', 'PC'];
@@ -62,9 +62,10 @@ export class Debugger {
     return rows.sort((one, other) => one.address - other.address);
   }
 
-  // What m11-dump prints, or nothing if there was no memory for it.
+  // What m11-dump prints; nothing without it, or without memory for it.
   view(words, files) {
     try {
+      if (!this.engine.hasViews) return '';
       return textOf(this.engine.dump(words, files).output);
     } catch {
       return '';
@@ -181,7 +182,7 @@ export class Debugger {
       const lines = byRow.get(number) ?? [];
       const isData = !isCode(row) || lines.length > 1;
       const data = `.WORD  ${words.map(one => one.toString(8)).join(',')}${row.size > 6 ? ' …' : ''}`;
-      return { words: words.map(one => octal(one)).join(' '), text: isData ? data : lines[0]?.text ?? '' };
+      return { words: words.map(one => octal(one)).join(' '), text: isData ? data : lines[0]?.text ?? statementOf(row.text ?? '') };
     });
   }
 
@@ -297,7 +298,8 @@ export class Debugger {
   async back(thing) {
     await this.page.alone(async progress => {
       const found = await backToChange(this.machine, thing, progress);
-      if (!found) return `Nothing has changed ${thing.name} in these ${this.machine.steps} steps.`;
+      if (!found && isSearchWhole(this.machine)) return `Nothing has changed ${thing.name} in these ${this.machine.steps} steps.`;
+      if (!found) return `No change of ${thing.name} was found. One that was undone again may have been missed.`;
       const sure = found.isSure ? '' : ' The run is long: a later change that was undone again may have been missed.';
       return `Step ${found.step} changes ${thing.name} from ${octal(found.before)} to ${octal(found.after)}.${sure}`;
     });
@@ -312,6 +314,11 @@ export class Debugger {
     }
     this.page.goTo(Number(text));
   }
+}
+
+// The statement of a line of a source, as it is shown where nothing disassembles.
+function statementOf(text) {
+  return text.replace(/^\s*(?:[A-Z0-9$.]+::?\s*)*/i, '').replace(/\s*;.*$/, '').replace(/^(\S+)\s+/, (_, operator) => operator.padEnd(7));
 }
 
 function wordsOf(bytes) {

@@ -71,8 +71,12 @@ export class Engine {
     }
   }
 
+  /** Whether the module has m11-dump and m11-trace. Without them the page shows less. */
+  get hasViews() {
+    return Boolean(this.module?.calls.m11_dump && this.module.calls.m11_trace);
+  }
+
   run(name, words, files, input) {
-    if (this.module && !this.module.calls[name]) throw new Error(`This module has no ${name}.`);
     const pairs = files.map(file => [file.name, file.bytes]);
     const answer = this.called(module => module.run(name, words, pairs, input));
     const made = new Map(answer.made.map(([path, bytes]) => [textOf(path), bytes]));

@@ -5,6 +5,8 @@ import { textOf } from './text.js';
 
 /** Runs up to this many steps are searched step by step, with the lines of m11-trace; longer ones by halving. */
 const MOST_TRACED = 2000000;
+/** Without traces, so many of the last steps are looked at one by one; each takes about a millisecond. */
+const MOST_STEPPED = 3000;
 /** How many steps of a trace are read at once. */
 const WINDOWS = [1000, 20000, 100000];
 
@@ -27,13 +29,23 @@ export const STATUS = { name: 'PSW', field: /\tPSW /, value: psw };
 export async function backToChange(machine, thing, progress) {
   const begun = machine.steps;
   const after = thing.value(machine.state);
-  const found = begun <= MOST_TRACED ? await traced(machine, thing, progress) : await halved(machine, thing, progress);
+  const canTrace = canBeTraced(machine);
+  const found = canTrace ? await traced(machine, thing, progress) : await stepped(machine, thing, progress) ?? await halved(machine, thing, progress);
   if (!found) {
     if (machine.steps !== begun) await machine.goTo(begun);
     return null;
   }
   await machine.goTo(found.step - 1, progress);
   return { ...found, before: thing.value(machine.state), after: found.after ?? after };
+}
+
+function canBeTraced(machine) {
+  return machine.engine.hasViews && machine.steps <= MOST_TRACED;
+}
+
+/** Whether each step is looked at, so that no change is missed. */
+export function isSearchWhole(machine) {
+  return canBeTraced(machine) || machine.steps <= MOST_STEPPED;
 }
 
 // Looks through the lines of the steps, the last ones first.
@@ -59,6 +71,21 @@ export function traceLines(machine, first, last, names = [], files = []) {
   const list = ['m11-trace', `-n${last}`, `-f${first}`, ...given, ...names.flatMap(name => [`--symbols=${name}`]), '--', 'RUN.TAP'];
   const answer = machine.engine.trace(list, [...files, { name: 'RUN.TAP', bytes: machine.tape }], machine.input.slice(0));
   return textOf(answer.messages).split('\n').filter(line => /^\d+\t/.test(line));
+}
+
+// Looks at each of the last steps.
+async function stepped(machine, thing, progress) {
+  const end = machine.steps;
+  await machine.goTo(Math.max(0, end - MOST_STEPPED), progress);
+  let step = 0;
+  for (let value = thing.value(machine.state); machine.steps < end;) {
+    machine.advance(1);
+    const now = thing.value(machine.state);
+    if (now !== value) step = machine.steps;
+    value = now;
+    if (machine.steps % 50 === 0) await new Promise(resolve => setTimeout(resolve, 0));
+  }
+  return step ? { step, isSure: true } : null;
 }
 
 // Between kept states whose values differ there is a change. It is found by halving, which can miss a change that was undone again.
