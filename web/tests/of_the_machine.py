@@ -166,6 +166,8 @@ def stops(page):
     page.wait(f"document.querySelector('[data-line=\"{line}\"]').classList.contains('break')")
     page.key("F8")
     page.wait(f"{STATE}.startsWith('WAITS')")
+    # It waits in the other module.
+    same(page.text("#code-place"), "CONSOL.MAC, line 15")
     page.press("#screen")
     page.type("Ada\n50\n23\n")
     page.wait(f"{STATE} === 'REACHED AFTER 619 STEPS'")
