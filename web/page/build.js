@@ -155,7 +155,7 @@ function linkMessage(line, plan) {
 function whereNamed(plan, name) {
   const letters = name.replace(/[.$]/g, '\\$&');
   // A name counts by its first six characters.
-  const form = new RegExp(`(?<![A-Z0-9$.])${letters}${name.length === 6 ? '[A-Z0-9$.]*' : ''}(?![A-Z0-9$.])`, 'i');
+  const form = new RegExp(`(?:^|[^A-Z0-9$.])${letters}${name.length === 6 ? '[A-Z0-9$.]*' : ''}(?![A-Z0-9$.])`, 'i');
   for (const module of plan.modules) {
     for (const file of module.sources) {
       const line = file.source.text.split('\n').findIndex(text => form.test(text.replace(/;.*/, '')) && !/^\s*\.GLOBL/i.test(text));

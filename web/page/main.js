@@ -80,7 +80,8 @@ function fileTabs(page) {
     byId('tabs').replaceChildren(...files.texts().map(({ name }) => {
       const isOpen = name === files.open;
       const on = { click: () => files.show(name), dblclick: () => page.rename(name) };
-      return make('button', { type: 'button', role: 'tab', 'aria-selected': String(isOpen), tabindex: isOpen ? '0' : '-1', title: name, on }, name);
+      const shown = { role: 'tab', 'aria-controls': 'editor', 'aria-selected': String(isOpen), tabindex: isOpen ? '0' : '-1', title: name };
+      return make('button', { type: 'button', ...shown, on }, name);
     }));
     byId('tabs').querySelector('[aria-selected=true]')?.scrollIntoView({ block: 'nearest', inline: 'nearest' });
   };
@@ -101,7 +102,12 @@ async function taken(page, list) {
       continue;
     }
     if (page.files.find(name) && !(await confirmed(`There is a file ${name} already. Replace it?`, 'Replace'))) continue;
-    const put = page.files.put(name, new Uint8Array(await file.arrayBuffer()));
+    const bytes = await file.arrayBuffer().catch(() => null);
+    if (!bytes) {
+      notify(`${name} can’t be read: is it a folder?`);
+      continue;
+    }
+    const put = page.files.put(name, new Uint8Array(bytes));
     if (put.source) page.files.show(name);
   }
 }
@@ -268,6 +274,9 @@ async function begin() {
   performance.mark('ready');
 }
 
+// What nothing else has caught is told, so that nobody waits for what won't come.
+addEventListener('error', event => event.error && notify(`The page failed: ${event.message}`));
+addEventListener('unhandledrejection', event => notify(`The page failed: ${event.reason?.message ?? event.reason}`));
 setTheme('Auto');
 SYSTEM.addEventListener('change', () => setTheme(settings.theme));
 begin().catch(error => notify(`This browser can’t run the module: ${error.message}`));

@@ -126,7 +126,6 @@ export class Page {
     this.marks.flag(errors);
     showMessages(messages, (file, line) => this.showLine(file, line));
     this.editor.redraw();
-    say(errors.length ? `${errors.length} messages` : 'Assembled and linked.');
     if (errors.length) {
       document.body.dataset.area = 'source';
       this.areaShown?.();

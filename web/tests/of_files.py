@@ -123,6 +123,16 @@ def files_are_dropped_in(given):
 
 
 @test
+def a_folder_is_refused(given):
+    page = given.open()
+    os.mkdir(os.path.join(given.folder, "FOLDER"))
+    for kind in ("dragEnter", "dragOver", "drop"):
+        page.call("Input.dispatchDragEvent", type=kind, x=300, y=300,
+                  data={"items": [], "files": [os.path.join(given.folder, "FOLDER")], "dragOperationsMask": 1})
+    page.wait("document.querySelector('#notice-text').textContent.includes('FOLDER can’t be read')")
+
+
+@test
 def a_link_carries_a_program(given):
     page = given.open()
     source(page, LOOP + f"; {MARKUP}\n")
