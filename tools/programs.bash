@@ -36,7 +36,7 @@ lists() {
             count = split(below[name], names, " ")
             for (i = 1; i <= count; i++) visit(names[i])
         }
-        !/^#/ { line[$1] = $0; below[$1] = $2 }
+        !/^#/ { name = $1; sub(/ staticlib$/, "", name); line[name] = $0; below[name] = $2 }
         END { count = split(roots, root, " "); for (i = 1; i <= count; i++) visit(root[i]) }' roots="$*" "$from/crates.txt"
 }
 
@@ -44,7 +44,7 @@ lists() {
 parts() {
     local from=$1 each part
     shift
-    while IFS=: read -r each _; do
+    while IFS=': ' read -r each _; do
         for part; do
             [[ -e $from/crates/$each/$part ]] && echo "crates/$each/$part"
         done
