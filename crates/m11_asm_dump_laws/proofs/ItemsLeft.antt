@@ -18,7 +18,7 @@ use Rattle.m11_unfold_bodies.specs.Conditions.{no_conditions}
 use Rattle.m11_unfold_rules.specs.Acting.{Foreign, Operation, OwnDirective, operation}
 use Rattle.m11_unfold_rules.specs.Directives.{operator_in}
 use Rattle.m11_unfold_rules.specs.declared.directives.Directive.TheVariants as word
-use Rattle.m11_asm_dump_laws.specs.Items.{Assigned, Item, Labelled, MovedTo, Shows, ShowsByte, after_item, all_defined, end_text, item_text, source_of, symbol_text, texts_of}
+use Rattle.m11_asm_dump_laws.specs.Items.{Assigned, Item, Labelled, MovedTo, Noted, Shows, ShowsByte, after_item, all_defined, end_text, item_text, source_of, symbol_text, texts_of}
 use Rattle.m11_asm_dump_laws.specs.Knowledge.{IsSpelled}
 use Rattle.m11_asm_dump_laws.specs.Texts.{line_text}
 use Rattle.m11_asm_dump_laws.proofs.Addresses.{address_token, bare_short}
@@ -28,6 +28,7 @@ use Rattle.m11_asm_dump_laws.proofs.EndLines.{alone_body, end_body, end_named}
 use Rattle.m11_asm_dump_laws.proofs.EndedSources.{AreEnded, IsEnd, ended_with}
 use Rattle.m11_asm_dump_laws.proofs.LabelLines.{HasName, body_is, name_of_symbol}
 use Rattle.m11_asm_dump_laws.proofs.LeftAlone.{asect_foreign, by_operator, byte_foreign, end_is_own, set_foreign, word_foreign}
+use Rattle.m11_asm_dump_laws.proofs.NoteLines.{no_body}
 use Rattle.m11_asm_dump_laws.proofs.PlainSources.{IsLeft, left_alone, statement_width}
 use Rattle.m11_asm_dump_laws.proofs.RowNames.{row_padded}
 use Rattle.m11_asm_dump_laws.proofs.Widths.{byte_width}
@@ -60,9 +61,21 @@ module _ (symbols : List Symbol) (spelled : AllByRecursion IsSpelled symbols) wh
       (left_alone line (omega (arith, size, short, digits))
       (ap (λ b. by_operator no_conditions line (operator_in b)) (assigns line text symbol.value refl has.is_text has.other)))
 
+  noted_left : (symbol : Symbol) → IsLeft (line_of (codes "; " ++ symbol_text symbol ++ codes "=" ++ number_text symbol.value))
+  noted_left symbol =
+      let name : Bytes = symbol_text symbol in
+      let text : Bytes = 0o40 ∷ ((name ++ codes "=") ++ number_text symbol.value) in
+      let size = length-append (name ++ codes "=") (number_text symbol.value) in
+      let front = length-append name (codes "=") in
+      let short = bare_short symbol in
+      let digits = number_width symbol.value in
+      left_alone (0o73 ∷ text) (omega (arith, size, front, short, digits))
+      (ap (λ b. by_operator no_conditions (0o73 ∷ text) (operator_in b)) (no_body text))
+
   item_left : (here : ℕ) (item : Item) → AllByRecursion IsSpelled (all_defined (item ∷ [])) → IsLeft (line_of (item_text symbols here item))
   item_left here (Labelled symbol) is = label_left symbol is.0
   item_left here (Assigned symbol) is = assigned_left symbol is.0
+  item_left here (Noted symbol) is = noted_left symbol
   item_left here (MovedTo address) is =
       let size = number_width address in left_alone (prefixed (codes "\t.=") address) (omega (arith, size)) (set_foreign no_conditions address)
   item_left here (Shows word more) is =
@@ -77,6 +90,7 @@ module _ (symbols : List Symbol) (spelled : AllByRecursion IsSpelled symbols) wh
   items_left here [] all = tt
   items_left here (Labelled symbol ∷ items) all = (item_left here (Labelled symbol) (all.0, tt), items_left here items all.1)
   items_left here (Assigned symbol ∷ items) all = (item_left here (Assigned symbol) (all.0, tt), items_left here items all.1)
+  items_left here (Noted symbol ∷ items) all = (noted_left symbol, items_left here items all)
   items_left here (MovedTo address ∷ items) all = (item_left here (MovedTo address) tt, items_left address items all)
   items_left here (Shows word more ∷ items) all =
       (item_left here (Shows word more) tt, items_left (after_item here (Shows word more)) items all)

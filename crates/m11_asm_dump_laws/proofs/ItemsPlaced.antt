@@ -36,7 +36,7 @@ use Rattle.m11_asm_rules.specs.declared.definitions.Definition.{Definition}
 use Rattle.m11_asm_rules.specs.declared.definitions.Key.TheVariants.{Named}
 use Rattle.m11_asm_rules.specs.declared.definitions.Standing.{Standing}
 use Rattle.m11_asm_rules.specs.declared.definitions.Standing.TheVariants.{Known}
-use Rattle.m11_asm_dump_laws.specs.Items.{AreDistinct, AreSound, Assigned, IsAmong, IsNoRegister, Item, Labelled, MovedTo, Shows, ShowsByte, after_item, all_defined, contents_in, defined_in, item_text, pieces_of, symbol_text, texts_of}
+use Rattle.m11_asm_dump_laws.specs.Items.{AreDistinct, AreSound, Assigned, IsAmong, IsNoRegister, Item, Labelled, MovedTo, Noted, Shows, ShowsByte, after_item, all_defined, contents_in, defined_in, item_text, pieces_of, symbol_text, texts_of}
 use Rattle.m11_asm_dump_laws.specs.Knowledge.{AtMostDefines, HasValue, IsSpelled, ReadsAsMeant, register_name, standing_of}
 use Rattle.m11_asm_dump_laws.specs.Lines.{AreRead, Assembles, HasCounter, IsLine}
 use Rattle.m11_asm_dump_laws.specs.Texts.{line_text}
@@ -47,6 +47,7 @@ use Rattle.m11_asm_dump_laws.proofs.PlacedLines.{counter_is, flags_in, pieces_in
 use Rattle.m11_asm_dump_laws.proofs.Digits.{number_width}
 use Rattle.m11_asm_dump_laws.proofs.DumpedLines.{line_assembled}
 use Rattle.m11_asm_dump_laws.proofs.LabelLines.{label_defines}
+use Rattle.m11_asm_dump_laws.proofs.NoteLines.{comment_rests}
 use Rattle.m11_asm_dump_laws.proofs.ReadData.{byte_assembled}
 use Rattle.m11_asm_dump_laws.proofs.ReadLines.{words_size}
 use Rattle.m11_asm_dump_laws.proofs.Widths.{whole_line}
@@ -275,6 +276,23 @@ module _ (map_ : Map) (table : Table) (here : ℕ) (done : List Symbol) (at : St
           defined = with_one symbol (numbered symbol.value) refl refl new;
         },
         λ one differs is. new_stays table symbol (numbered symbol.value) refl refl new one differs.0 is,
+      )
+
+  -- the line of a comment has at most fifteen characters
+  pub noted_leads : (symbol : Symbol) → IsLine given (codes "; " ++ symbol_text symbol ++ codes "=" ++ number_text symbol.value)
+      → Leads (Noted symbol)
+  noted_leads symbol this =
+      let name : Bytes = symbol_text symbol in
+      let text : Bytes = 0o40 ∷ ((name ++ codes "=") ++ number_text symbol.value) in
+      let size = length-append (name ++ codes "=") (number_text symbol.value) in
+      let front = length-append name (codes "=") in
+      let short = bare_short symbol in
+      let digits = number_width symbol.value in
+      let made = comment_rests map_ table given text (whole_line given (0o73 ∷ text) (omega (arith, size, front, short, digits)) this) in (
+        table,
+        record { pieces = made.pieces; flags = made.flags; after = made.after; transfer = made.transfer },
+        same_done table here at,
+        λ one differs is. is,
       )
 
   -- a line that moves the counter, and defines nothing

@@ -23,11 +23,11 @@ use Rattle.m11_asm_rules.specs.Placements.{after_lines, placed_from}
 use Rattle.m11_asm_rules.specs.Sources.{line_transfer, transfer_after, transfer_by}
 use Rattle.m11_asm_rules.specs.Tables.{Table, location}
 use Rattle.m11_asm_rules.specs.declared.definitions.Key.TheVariants.{Named}
-use Rattle.m11_asm_dump_laws.specs.Items.{AreDistinct, AreSound, Assigned, IsAmong, IsNoRegister, IsSound, Item, Labelled, MovedTo, Shows, ShowsByte, after_item, all_defined, contents_in, defined_in, item_text, pieces_of, texts_of}
+use Rattle.m11_asm_dump_laws.specs.Items.{AreDistinct, AreSound, Assigned, IsAmong, IsNoRegister, IsSound, Item, Labelled, MovedTo, Noted, Shows, ShowsByte, after_item, all_defined, contents_in, defined_in, item_text, pieces_of, texts_of}
 use Rattle.m11_asm_dump_laws.specs.Knowledge.{HasValue, IsSpelled}
 use Rattle.m11_asm_dump_laws.specs.Lines.{AreRead, IsLine}
 use Rattle.m11_asm_dump_laws.proofs.PlacedLines.{flags_in, pieces_in}
-use Rattle.m11_asm_dump_laws.proofs.ItemsPlaced.{Does, Fits, Leads, IsDefinedIn, IsFinal, IsNewIn, StandsAt, assigned_leads, byte_leads, defined_fits, each, joined, labelled_leads, members, moved_leads, new_fits, new_stays, words_lead}
+use Rattle.m11_asm_dump_laws.proofs.ItemsPlaced.{Does, Fits, Leads, IsDefinedIn, IsFinal, IsNewIn, StandsAt, assigned_leads, byte_leads, defined_fits, each, joined, labelled_leads, members, moved_leads, new_fits, new_stays, noted_leads, words_lead}
 
 -- ---- lines that set no transfer address
 
@@ -244,6 +244,10 @@ module _ (map_ : Map) (symbols : List Symbol) (spelled : AllByRecursion IsSpelle
       (λ t stands news amongs. walked items t here (done ++ symbol ∷ []) stands sound.1 (rest_defined map_ symbol (all_defined items) can) news
       amongs lines read.1)
       (assigned_leads map_ table here done at given symbol can.spelled.0 can.others.0 sound.0 new.0 can.finals.0 read.0)
+  walked (Noted symbol ∷ items) table here done at sound can new among (given ∷ lines) read =
+      onward table here done at (Noted symbol) items given lines new (differ_none (all_defined items)) among
+      (λ t stands news amongs. walked items t here (done ++ []) stands sound.1 can news amongs lines read.1)
+      (noted_leads map_ table here done at given symbol read.0)
   walked (MovedTo address ∷ items) table here done at sound can new among (given ∷ lines) read =
       onward table here done at (MovedTo address) items given lines new (differ_none (all_defined items)) among
       (λ t stands news amongs. walked items t address (done ++ []) stands sound.1 can news amongs lines read.1)

@@ -26,6 +26,7 @@ pub mod PlainSources
 pub mod Addresses
 pub mod FirstTokens
 pub mod LabelLines
+pub mod NoteLines
 pub mod AssignLines
 pub mod EndLines
 pub mod ItemsPlaced

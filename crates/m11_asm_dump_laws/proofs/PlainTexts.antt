@@ -1,10 +1,11 @@
 -- The lines of a source have no character that ends or changes a line.
-use Rattle.std.proofs.Common.{◌≡◌, ℕ, ◌+◌, ◌%◌, ◌≤◌, ◌<◌, Bool, true, false, not, ◌&&◌, ◌||◌, List, [], ◌∷◌, ◌++◌, Option, Some, None, inl, inr, refl, ◌∙◌, subst, sym, arith, codes}
+use Rattle.std.proofs.Common.{◌≡◌, ℕ, ◌+◌, ◌/◌, ◌%◌, ◌≤◌, ◌<◌, Bool, true, false, not, ◌&&◌, ◌||◌, List, [], ◌∷◌, ◌++◌, Option, Some, None, inl, inr, refl, ◌∙◌, subst, sym, arith, codes}
 use Rattle.std.specs.Prelude.{◌==◌, if◌then◌else◌, nat_le}
 use Rattle.std.specs.List.{AllByRecursion, list_all}
-use Rattle.std.proofs.lemmas.Bool.{and_parts, cases_Bool, eqb-true, false≢true, leb-false, leb-true, lt-leb, ne_eqb}
+use Rattle.std.proofs.lemmas.Bool.{agree_below_at, and_parts, cases_Bool, eqb-true, false≢true, leb-false, leb-true, lt-leb, ne_eqb}
 use Rattle.m11_base.specs.Devices.{Bytes}
 use Rattle.m11_base.specs.NameCharacters.{is_name_character}
+use Rattle.m11_base.specs.Rad50.{IsName, Name, alphabet, character_of, characters_of, name_text}
 use Rattle.m11_base.specs.declared.instruction_list.Row.{Row}
 use Rattle.m11_base.specs.declared.operand.Register.{Register}
 use Rattle.m11_base.specs.declared.operand.Register.TheVariants.{R0, R1, R2, R3, R4, R5, Sp, Pc}
@@ -23,7 +24,7 @@ use Rattle.m11_base_disassembly.specs.Texts.{between, index_text, prefixed, regi
 use Rattle.m11_base_disassembly.specs.declared.symbols.Symbol.{Symbol}
 use Rattle.m11_scan.specs.Classes.{is_digit, is_plain}
 use Rattle.m11_scan.specs.Laws.{ArePlainTexts, IsPlainText}
-use Rattle.m11_asm_dump_laws.specs.Items.{Assigned, Item, Labelled, MovedTo, Shows, ShowsByte, after_item, all_defined, end_text, item_text, source_of, symbol_text, texts_of}
+use Rattle.m11_asm_dump_laws.specs.Items.{AreSound, Assigned, IsSound, Item, Labelled, MovedTo, Noted, Shows, ShowsByte, after_item, all_defined, end_text, item_text, source_of, symbol_text, texts_of}
 use Rattle.m11_asm_dump_laws.specs.Knowledge.{IsSpelled}
 use Rattle.m11_asm_dump_laws.specs.Operands.{is_name_text}
 use Rattle.m11_asm_dump_laws.specs.Texts.{argument_text, line_text}
@@ -95,6 +96,32 @@ spaces_above (byte ∷ text) all =
     let P : ℕ → Type 0 = λ b. 32 ≤ b in
     (subst P (sym (eqb-true byte 0o40 parts.0)) (omega arith), spaces_above text parts.1)
 
+-- ---- names of six characters
+
+character_above : (code : ℕ) → code < 40 → 32 ≤ character_of code
+unfolding alphabet character_of
+character_above code below =
+    leb-true 32 (character_of code) (agree_below_at (λ k. nat_le 32 (character_of k)) (λ k. true) 40 code refl below)
+
+name_characters_above : (name : Name) → IsName name → AreAbove (name_text name)
+name_characters_above name is =
+    let last : AreAbove (characters_of name.1) = (
+      character_above (name.1 / 1600) (omega (arith, is.1)),
+      (character_above (name.1 / 40 % 40) (omega arith), (character_above (name.1 % 40) (omega arith), tt)),
+    ) in (
+      character_above (name.0 / 1600) (omega (arith, is.0)),
+      (character_above (name.0 / 40 % 40) (omega arith), (character_above (name.0 % 40) (omega arith), last)),
+    )
+
+bare_by : (character : ℕ) (rest : Bytes) (b : Bool) → 32 ≤ character → AreAbove rest → AreAbove (if b then [] else character ∷ rest)
+bare_by character rest true least above = tt
+bare_by character rest false least above = (least, above)
+
+bare_above : (characters : Bytes) → AreAbove characters → AreAbove (bare_name characters)
+bare_above [] above = tt
+bare_above (character ∷ characters) above =
+    bare_by character (bare_name characters) (character == 32) above.0 (bare_above characters above.1)
+
 -- ---- parts of lines
 
 number_above : (number : ℕ) → AreAbove (number_text number)
@@ -112,6 +139,11 @@ register_above Pc = (omega arith, (omega arith, tt))
 
 symbol_above : (symbol : Symbol) → IsSpelled symbol → AreAbove (symbol_text symbol)
 symbol_above symbol is = name_text_above (symbol_text symbol) is.is_name
+
+valued_above : (symbol : Symbol) → AreAbove (symbol_text symbol) → AreAbove ((symbol_text symbol ++ codes "=") ++ number_text symbol.value)
+valued_above symbol above =
+    above_both (symbol_text symbol ++ codes "=") (number_text symbol.value) (above_both (symbol_text symbol) (codes "=") above (omega arith, tt))
+    (number_above symbol.value)
 
 between_above : (first last : Bytes) (register : Register) → AreAbove first → AreAbove last → AreAbove (between first register last)
 between_above first last register is also =
@@ -210,38 +242,43 @@ module _ (symbols : List Symbol) (spelled : AllByRecursion IsSpelled symbols) wh
   statement_plain None here word more padded = word_plain word
   statement_plain (Some row) here word more padded = named_plain row.name (operands_of here more (instruction_of word)) padded
 
-  item_plain : (here : ℕ) (item : Item) → AllByRecursion IsSpelled (all_defined (item ∷ [])) → IsPlainText (item_text symbols here item)
-  item_plain here (Labelled symbol) is =
+  item_plain : (here : ℕ) (item : Item) → AllByRecursion IsSpelled (all_defined (item ∷ [])) → IsSound here item
+      → IsPlainText (item_text symbols here item)
+  item_plain here (Labelled symbol) is sound =
       all_plain (symbol_text symbol ++ codes ":") (above_both (symbol_text symbol) (codes ":") (symbol_above symbol is.0) (omega arith, tt))
-  item_plain here (Assigned symbol) is =
-      all_plain ((symbol_text symbol ++ codes "=") ++ number_text symbol.value) (above_both (symbol_text symbol ++ codes "=") (number_text symbol.value)
-      (above_both (symbol_text symbol) (codes "=") (symbol_above symbol is.0) (omega arith, tt)) (number_above symbol.value))
-  item_plain here (MovedTo address) is =
+  item_plain here (Assigned symbol) is sound =
+      all_plain ((symbol_text symbol ++ codes "=") ++ number_text symbol.value) (valued_above symbol (symbol_above symbol is.0))
+  item_plain here (Noted symbol) is sound =
+      all_plain ((codes "; " ++ symbol_text symbol ++ codes "=") ++ number_text symbol.value)
+      (omega arith, (omega arith, valued_above symbol (bare_above (name_text symbol.name) (name_characters_above symbol.name sound))))
+  item_plain here (MovedTo address) is sound =
       tab_plain (0o56 ∷ (0o75 ∷ number_text address)) (omega arith, (omega arith, number_above address))
-  item_plain here (Shows word more) is = statement_plain (whole_row word more) here word more (row_padded word more)
-  item_plain here (ShowsByte byte) is = byte_plain byte
+  item_plain here (Shows word more) is sound = statement_plain (whole_row word more) here word more (row_padded word more)
+  item_plain here (ShowsByte byte) is sound = byte_plain byte
 
-  texts_plain : (here : ℕ) (items : List Item) (others : List Bytes) → AllByRecursion IsSpelled (all_defined items) → ArePlainTexts others
-      → ArePlainTexts (texts_of symbols here items ++ others)
-  texts_plain here [] others all rest = rest
-  texts_plain here (Labelled symbol ∷ items) others all rest =
-      (item_plain here (Labelled symbol) (all.0, tt), texts_plain here items others all.1 rest)
-  texts_plain here (Assigned symbol ∷ items) others all rest =
-      (item_plain here (Assigned symbol) (all.0, tt), texts_plain here items others all.1 rest)
-  texts_plain here (MovedTo address ∷ items) others all rest =
-      (item_plain here (MovedTo address) tt, texts_plain address items others all rest)
-  texts_plain here (Shows word more ∷ items) others all rest =
-      (item_plain here (Shows word more) tt, texts_plain (after_item here (Shows word more)) items others all rest)
-  texts_plain here (ShowsByte byte ∷ items) others all rest =
-      (item_plain here (ShowsByte byte) tt, texts_plain (after_item here (ShowsByte byte)) items others all rest)
+  texts_plain : (here : ℕ) (items : List Item) (others : List Bytes) → AllByRecursion IsSpelled (all_defined items) → AreSound here items
+      → ArePlainTexts others → ArePlainTexts (texts_of symbols here items ++ others)
+  texts_plain here [] others all sound rest = rest
+  texts_plain here (Labelled symbol ∷ items) others all sound rest =
+      (item_plain here (Labelled symbol) (all.0, tt) sound.0, texts_plain here items others all.1 sound.1 rest)
+  texts_plain here (Assigned symbol ∷ items) others all sound rest =
+      (item_plain here (Assigned symbol) (all.0, tt) sound.0, texts_plain here items others all.1 sound.1 rest)
+  texts_plain here (Noted symbol ∷ items) others all sound rest =
+      (item_plain here (Noted symbol) tt sound.0, texts_plain here items others all sound.1 rest)
+  texts_plain here (MovedTo address ∷ items) others all sound rest =
+      (item_plain here (MovedTo address) tt sound.0, texts_plain address items others all sound.1 rest)
+  texts_plain here (Shows word more ∷ items) others all sound rest =
+      (item_plain here (Shows word more) tt sound.0, texts_plain (after_item here (Shows word more)) items others all sound.1 rest)
+  texts_plain here (ShowsByte byte ∷ items) others all sound rest =
+      (item_plain here (ShowsByte byte) tt sound.0, texts_plain (after_item here (ShowsByte byte)) items others all sound.1 rest)
 
   end_by : (start : ℕ) (b : Bool) → IsPlainText (codes "\t.END" ++ (if b then codes "\t" ++ address_text symbols start else []))
   end_by start true = (refl, (refl, (refl, (refl, (refl, (refl, all_plain (address_text symbols start) (address_above start)))))))
   end_by start false = (refl, (refl, (refl, (refl, (refl, tt)))))
 
-  pub source_plain : (start : ℕ) (items : List Item) → AllByRecursion IsSpelled (all_defined items)
+  pub source_plain : (start : ℕ) (items : List Item) → AllByRecursion IsSpelled (all_defined items) → AreSound 0 items
       → ArePlainTexts (source_of symbols start items)
-  source_plain start items all = (
+  source_plain start items all sound = (
     (refl, (refl, (refl, (refl, (refl, (refl, (refl, tt))))))),
-    texts_plain 0 items (end_text symbols start ∷ []) all (end_by start (start % 2 == 0), tt),
+    texts_plain 0 items (end_text symbols start ∷ []) all sound (end_by start (start % 2 == 0), tt),
   )

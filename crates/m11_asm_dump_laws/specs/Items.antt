@@ -1,10 +1,11 @@
--- The lines of a source that says what memory holds: labels, assignments, moves of the location counter, and what words and bytes hold.
--- (MACRO-11 Language Reference Manual, "Label field", "Direct assignment statements", "Current location counter" and ".END directive".)
+-- The lines of a source that says what memory holds: labels, assignments, comments, moves of the location counter, and what words and bytes
+-- hold. (MACRO-11 Language Reference Manual, "Label field", "Comment field", "Direct assignment statements", "Current location counter" and
+-- ".END directive".)
 use Rattle.std.specs.Prelude.{◌≡◌, ℕ, ◌+◌, ◌*◌, ◌%◌, ◌<◌, ◌==◌, false, if◌then◌else◌, List, [], ◌∷◌, ◌++◌, Option, Some, None, codes, length, map}
 use Rattle.std.specs.List.{AllByRecursion, flat_map}
 use Rattle.m11_base.specs.Devices.{Bytes}
 use Rattle.m11_base.specs.Names.{absolute_name}
-use Rattle.m11_base.specs.Rad50.{is_same_name, name_text}
+use Rattle.m11_base.specs.Rad50.{IsName, is_same_name, name_text}
 use Rattle.m11_base.specs.declared.operand.Register.{Register}
 use Rattle.m11_base_disassembly.specs.Instructions.{size_of, statement_of}
 use Rattle.m11_base_disassembly.specs.Meaning.{AreWords}
@@ -32,6 +33,8 @@ pub data Item : Type 0 where
   Labelled : Symbol → Item
   -- this symbol has its value
   Assigned : Symbol → Item
+  -- a comment says the value of this symbol, which the source doesn't define
+  Noted : Symbol → Item
   -- the location counter goes to an address
   MovedTo : ℕ → Item
   -- these words are here: one, and those after it that its instruction has
@@ -46,6 +49,7 @@ symbol_text symbol = bare_name (name_text symbol.name)
 abbrev pub item_text : List Symbol → ℕ → Item → Bytes
 item_text symbols here (Labelled symbol) = symbol_text symbol ++ codes ":"
 item_text symbols here (Assigned symbol) = symbol_text symbol ++ codes "=" ++ number_text symbol.value
+item_text symbols here (Noted symbol) = codes "; " ++ symbol_text symbol ++ codes "=" ++ number_text symbol.value
 item_text symbols here (MovedTo address) = prefixed (codes "\t.=") address
 item_text symbols here (Shows word more) = line_text symbols (statement_of here word more)
 item_text symbols here (ShowsByte byte) = line_text symbols (DataByte byte)
@@ -63,10 +67,12 @@ after_item here (Shows word more) = further here ((1 + length more) * 2)
 after_item here (ShowsByte byte) = further here 1
 after_item here other = here
 
--- what a line says can be so at its address: a label's value is the address, and words are as many as one statement has, at an even one
+-- what a line says can be so at its address: a label's value is the address, and words are as many as one statement has, at an even one; a
+-- comment can be so anywhere
 abbrev pub IsSound : ℕ → Item → Type 0
 IsSound here (Labelled symbol) = symbol.value ≡ here
 IsSound here (Assigned symbol) = symbol.value < 65536
+IsSound here (Noted symbol) = IsName symbol.name
 IsSound here (MovedTo address) = address < 65536
 IsSound here (Shows word more) = (here % 2 ≡ 0) × (word < 65536) × AreWords more × (size_of word more ≡ 1 + length more)
 IsSound here (ShowsByte byte) = byte < 256

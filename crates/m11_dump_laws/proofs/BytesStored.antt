@@ -13,7 +13,7 @@ use Rattle.m11_obj_blocks.specs.Frames.{word_bytes}
 use Rattle.m11_cpu_laws.specs.Image.{byte_of, byte_within}
 use Rattle.m11_cpu_laws.proofs.BytesPlaced.{byte_of-append}
 use Rattle.m11_asm_rules.specs.Contents.{fixed_byte, fixed_word, further, piece, pieces_from}
-use Rattle.m11_asm_dump_laws.specs.Items.{Item, Labelled, Assigned, MovedTo, contents_in, pieces_of}
+use Rattle.m11_asm_dump_laws.specs.Items.{Item, Labelled, Assigned, Noted, MovedTo, contents_in, pieces_of}
 use Rattle.m11_dump_source.specs.Lines.{leading, line_at, lines_from, lines_of, shown_at, size_shown}
 use Rattle.m11_dump_source.specs.Memory.{Cells}
 use Rattle.m11_dump_source.specs.Texts.{begins_at}
@@ -57,6 +57,10 @@ values_have_none here lines (symbol ∷ kept) items =
     ap (pieces_of here) (append_assoc (value_of lines symbol) (flat_map (value_of lines) kept) items)
     ∙ value_by here symbol (flat_map (value_of lines) kept ++ items) (begins_at lines symbol.value)
     ∙ values_have_none here lines kept items
+
+notes_have_none : (here : ℕ) (others : List Symbol) (items : List Item) → pieces_of here (map Noted others ++ items) ≡ pieces_of here items
+notes_have_none here [] items = refl
+notes_have_none here (symbol ∷ others) items = notes_have_none here others items
 
 -- ---- the pieces of a line
 
@@ -245,11 +249,13 @@ module _ (lies : Piece → ℕ × Bytes) (fixed : LiesFixed lies) (at : ℕ) whe
         ∙ both_found address byte cells all
 
   -- the pieces of the items of memory have a byte at an address if memory has one there, and it is that one
-  pub memory_found : (kept symbols : List Symbol) (cells : Cells) → AllByRecursion IsCell cells → length cells ≤ 65536
-      → found_in (pieces_of 0 (flat_map (value_of (lines_of cells)) kept ++ items_in symbols 0 (lines_of cells))) ≡ get_or cells at None
-  memory_found kept symbols cells all few =
+  pub memory_found : (kept others symbols : List Symbol) (cells : Cells) → AllByRecursion IsCell cells → length cells ≤ 65536
+      → found_in (pieces_of 0 (flat_map (value_of (lines_of cells)) kept ++ (map Noted others ++ items_in symbols 0 (lines_of cells))))
+      ≡ get_or cells at None
+  memory_found kept others symbols cells all few =
       let same : at - 0 ≡ at = omega arith in
-      ap found_in (values_have_none 0 (lines_of cells) kept (items_in symbols 0 (lines_of cells)))
+      let items : List Item = items_in symbols 0 (lines_of cells) in
+      ap found_in (values_have_none 0 (lines_of cells) kept (map Noted others ++ items) ∙ notes_have_none 0 others items)
       ∙ cells_found symbols 0 0 cells all (omega (arith, few)) 0
       ∙ found_from 0 cells at (omega arith)
       ∙ ap (λ (n : ℕ). get_or cells n None) same

@@ -135,7 +135,7 @@ module _ (laws : Laws) (names : List Symbol) (start : ℕ) (cells : Cells) (byte
   reading_is : reading_of (text ∷ []) ≡ record { lines = map line_of texts; fault = None }
   reading_is =
       text_read laws.reads text texts (laws.text names start cells bytes.few ∙ written_flat texts)
-      (source_plain symbols (members IsSpelled (all_defined list) symbols well.spelled well.known) start list well.spelled) short.bytes
+      (source_plain symbols (members IsSpelled (all_defined list) symbols well.spelled well.known) start list well.spelled well.sound) short.bytes
       short.lines
 
   module _ (bottom : ℕ) (lines : List NumberedLine) (live : AreLive (text ∷ []) lines) where

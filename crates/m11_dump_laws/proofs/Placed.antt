@@ -7,7 +7,7 @@ use Rattle.m11_asm_rules.specs.Contents.{fixed_byte, fixed_word}
 use Rattle.m11_cli_image.specs.Addresses.{Addresses}
 use Rattle.m11_cli_image.specs.Pieces.{bytes_at, laid, placed, spot}
 use Rattle.m11_asm_dump_laws.specs.Items.{pieces_of}
-use Rattle.m11_dump_source.specs.Labels.{kept_of, symbols_in}
+use Rattle.m11_dump_source.specs.Labels.{kept_of, left_out, symbols_in}
 use Rattle.m11_dump_source.specs.Lines.{lines_of}
 use Rattle.m11_dump_source.specs.Memory.{Cells}
 use Rattle.m11_dump_laws.specs.Items.{AreCells, items_of}
@@ -30,5 +30,5 @@ module _ (program : Addresses) (source : ℕ) (at_zero : program.base source abs
   pub bytes_are_those_of_memory : (names : List Symbol) (start : ℕ) (cells : Cells) (address : ℕ) → AreCells cells
       → byte_of (map (placed program source) (pieces_of 0 (items_of names start cells))) address ≡ get_or cells address None
   bytes_are_those_of_memory names start cells address are =
-      memory_found (placed program source) placed_fixed address (kept_of names) (symbols_in (kept_of names) start (lines_of cells)) cells
-      are.bytes are.few
+      memory_found (placed program source) placed_fixed address (kept_of names) (left_out names)
+      (symbols_in (kept_of names) start (lines_of cells)) cells are.bytes are.few

@@ -1,5 +1,5 @@
 -- What a line shows can be so at its address, and so can all items.
-use Rattle.std.proofs.Common.{◌≡◌, ◌∙◌, ℕ, zero, suc, ◌+◌, ◌-◌, ◌*◌, ◌%◌, ◌<◌, ◌≤◌, Bool, true, false, List, [], ◌∷◌, ◌++◌, length, take, Option, Some, None, refl, sym, ap, subst, arith, append_assoc}
+use Rattle.std.proofs.Common.{◌≡◌, ◌∙◌, ℕ, zero, suc, ◌+◌, ◌-◌, ◌*◌, ◌%◌, ◌<◌, ◌≤◌, Bool, true, false, List, [], ◌∷◌, ◌++◌, length, map, take, Option, Some, None, refl, sym, ap, subst, arith, append_assoc}
 use Rattle.std.specs.Prelude.{◌==◌, nat_le, if◌then◌else◌}
 use Rattle.std.specs.List.{AllByRecursion, flat_map}
 use Rattle.std.proofs.lemmas.Bool.{eqb-true, le-leb, leb-false, leb-true, lt-leb}
@@ -10,12 +10,12 @@ use Rattle.m11_base.specs.declared.instruction_list.Row.{Row}
 use Rattle.m11_base_disassembly.specs.Instructions.{row_named, size_by, size_of, words_after}
 use Rattle.m11_base_disassembly.specs.Meaning.{AreWords}
 use Rattle.m11_base_disassembly.specs.declared.symbols.Symbol.{Symbol}
-use Rattle.m11_asm_dump_laws.specs.Items.{AreSound, Assigned, IsSound, Item, Labelled, MovedTo, Shows}
+use Rattle.m11_asm_dump_laws.specs.Items.{AreSound, Assigned, IsSound, Item, Labelled, MovedTo, Noted, Shows}
 use Rattle.m11_dump_source.specs.Lines.{leading, lines_from, shown_at, shown_by, shown_words, size_shown, words_in}
 use Rattle.m11_dump_source.specs.Memory.{Cells}
 use Rattle.m11_dump_source.specs.Texts.{begins_at}
 use Rattle.m11_dump_source.specs.declared.lines.Line.{Line}
-use Rattle.m11_dump_laws.specs.Items.{IsCell, item_of, items_in, label_at, labels_at, line_items, move_to, value_of}
+use Rattle.m11_dump_laws.specs.Items.{IsCell, IsGiven, item_of, items_in, label_at, labels_at, line_items, move_to, value_of}
 use Rattle.m11_dump_laws.proofs.Shown.{AreBytes, leading_bytes}
 use Rattle.m11_dump_laws.proofs.Written.{after_shown, counter_there}
 
@@ -172,3 +172,8 @@ values_sound here lines (symbol ∷ kept) items small sound =
     subst (AreSound here) (sym (append_assoc (value_of lines symbol) (flat_map (value_of lines) kept) items))
     (value_by here symbol (flat_map (value_of lines) kept ++ items) (begins_at lines symbol.value) small.0
     (values_sound here lines kept items small.1 sound))
+
+pub notes_sound : (here : ℕ) (others : List Symbol) (items : List Item) → AllByRecursion IsGiven others → AreSound here items
+    → AreSound here (map Noted others ++ items)
+notes_sound here [] items given sound = sound
+notes_sound here (symbol ∷ others) items given sound = (given.0.0, notes_sound here others items given.1 sound)

@@ -1,25 +1,25 @@
 -- The items of memory are well formed.
-use Rattle.std.proofs.Common.{◌≡◌, ◌∙◌, ℕ, ◌+◌, ◌<◌, ◌≤◌, Bool, true, false, ◌||◌, List, [], ◌∷◌, ◌++◌, length, refl, sym, ap, ap₂, subst, arith, append-nil}
-use Rattle.std.specs.Prelude.{◌==◌, not, if◌then◌else◌}
+use Rattle.std.proofs.Common.{◌≡◌, ◌∙◌, ℕ, ◌+◌, ◌<◌, ◌≤◌, Bool, true, false, ◌||◌, List, [], ◌∷◌, ◌++◌, length, map, refl, sym, ap, ap₂, subst, arith, append-nil}
+use Rattle.std.specs.Prelude.{◌==◌, cond, filter, not, if◌then◌else◌}
 use Rattle.std.specs.List.{AllByRecursion, flat_map}
 use Rattle.std.proofs.lemmas.Bool.{both_ways, eq-eqb, eqb-true, not-true}
 use Rattle.std.proofs.lemmas.Grind.{flat_map-append}
 use Rattle.m11_base_disassembly.specs.declared.symbols.Symbol.{Symbol}
-use Rattle.m11_asm_dump_laws.specs.Items.{AreDistinct, AreWellFormed, Assigned, IsAmong, IsNoRegister, Item, Labelled, MovedTo, all_defined, defined_in}
+use Rattle.m11_asm_dump_laws.specs.Items.{AreDistinct, AreWellFormed, Assigned, IsAmong, IsNoRegister, Item, Labelled, MovedTo, Noted, all_defined, defined_in}
 use Rattle.m11_asm_dump_laws.specs.Knowledge.{IsSpelled}
-use Rattle.m11_dump_source.specs.Labels.{kept_of, made_for, symbols_in, targets}
+use Rattle.m11_dump_source.specs.Labels.{is_kept, kept_of, left_out, made_for, symbols_in, targets}
 use Rattle.m11_dump_source.specs.Lines.{lines_of, size_shown}
 use Rattle.m11_dump_source.specs.Memory.{Cells}
 use Rattle.m11_dump_source.specs.Texts.{begins_at}
 use Rattle.m11_dump_source.specs.declared.lines.Line.{Line}
 use Rattle.m11_dump_source.specs.declared.lines.Shown.{Shown}
 use Rattle.m11_dump_source.specs.declared.lines.Shown.TheVariants.{Byte, Word, TwoWords, ThreeWords}
-use Rattle.m11_dump_laws.specs.Items.{AreCells, AreNames, all_symbols, item_of, items_in, items_of, label_at, labels_at, line_items, move_to, value_of}
+use Rattle.m11_dump_laws.specs.Items.{AreCells, AreNames, IsGiven, all_symbols, item_of, items_in, items_of, label_at, labels_at, line_items, move_to, value_of}
 use Rattle.m11_dump_laws.proofs.AllSymbols.{AreRising, AreUsable, IsUsable, begin_there, later, lines_rising, made_at_lines, names_kept, symbols_usable}
 use Rattle.m11_dump_laws.proofs.Among.{IsApart, IsApartByValue, all_among, all_both, all_by, all_left, all_with, among_left, among_right, apart_by_value, chosen, chosen_all, chosen_distinct, chosen_has, distinct_both}
 use Rattle.m11_dump_laws.proofs.LinesWithin.{lines_below}
 use Rattle.m11_dump_laws.proofs.Names.{can_spell, no_register}
-use Rattle.m11_dump_laws.proofs.SoundLines.{IsSoundLine, items_sound, sound_lines, values_sound}
+use Rattle.m11_dump_laws.proofs.SoundLines.{IsSoundLine, items_sound, notes_sound, sound_lines, values_sound}
 
 -- ---- the symbols that items define
 
@@ -84,6 +84,10 @@ values_define lines [] = refl
 values_define lines (symbol ∷ kept) =
     defined_parted (value_of lines symbol) (flat_map (value_of lines) kept)
     ∙ ap₂ (λ (x y : List Symbol). x ++ y) (value_defines symbol (begins_at lines symbol.value)) (values_define lines kept)
+
+notes_define : (others : List Symbol) (items : List Item) → all_defined (map Noted others ++ items) ≡ all_defined items
+notes_define [] items = refl
+notes_define (symbol ∷ others) items = notes_define others items
 
 -- ---- what holds of them
 
@@ -150,7 +154,7 @@ module _ (symbols : List Symbol) where
 
 -- ---- all items
 
-module _ (kept : List Symbol) (start : ℕ) (lines : List Line) where
+module _ (kept noted : List Symbol) (start : ℕ) (lines : List Line) where
   abbrev symbols : List Symbol
   symbols = symbols_in kept start lines
 
@@ -206,19 +210,23 @@ module _ (kept : List Symbol) (start : ℕ) (lines : List Line) where
       (chosen_all R (λ s. not (begins_at lines s.value)) kept
       (all_left R kept (flat_map (made_for kept (targets start lines)) lines) apart)))
 
-  defines : all_defined (flat_map (value_of lines) kept ++ items_in symbols 0 lines) ≡ defined
-  defines =
-      defined_parted (flat_map (value_of lines) kept) (items_in symbols 0 lines)
-      ∙ ap₂ (λ (x y : List Symbol). x ++ y) (values_define lines kept) (lines_define symbols 0 lines)
+  abbrev items : List Item
+  items = flat_map (value_of lines) kept ++ (map Noted noted ++ items_in symbols 0 lines)
 
-  well_formed : AreUsable kept → AreUsable symbols → AreRising 0 lines → AllByRecursion (IsSoundLine 65536) lines
-      → AreWellFormed symbols (flat_map (value_of lines) kept ++ items_in symbols 0 lines)
-  well_formed are all rising sound_ =
-      let items : List Item = flat_map (value_of lines) kept ++ items_in symbols 0 lines in
+  defines : all_defined items ≡ defined
+  defines =
+      defined_parted (flat_map (value_of lines) kept) (map Noted noted ++ items_in symbols 0 lines)
+      ∙ ap₂ (λ (x y : List Symbol). x ++ y) (values_define lines kept)
+      (notes_define noted (items_in symbols 0 lines) ∙ lines_define symbols 0 lines)
+
+  well_formed : AreUsable kept → AllByRecursion IsGiven noted → AreUsable symbols → AreRising 0 lines
+      → AllByRecursion (IsSoundLine 65536) lines → AreWellFormed symbols items
+  well_formed are given all rising sound_ =
       let back : (P : List Symbol → Type 0) → P defined → P (all_defined items) = λ P is. subst P (sym defines) is in
       record {
-        sound = values_sound 0 lines kept (items_in symbols 0 lines)
-            (all_by IsUsable (λ s. s.value < 65536) kept (λ s is. is.1) are.each) (items_sound symbols 0 lines sound_);
+        sound = values_sound 0 lines kept (map Noted noted ++ items_in symbols 0 lines)
+            (all_by IsUsable (λ s. s.value < 65536) kept (λ s is. is.1) are.each)
+            (notes_sound 0 noted (items_in symbols 0 lines) given (items_sound symbols 0 lines sound_));
         spelled = back (AllByRecursion IsSpelled)
             (each_of IsSpelled (all_by IsUsable IsSpelled symbols (λ s is. can_spell s is.0) all.each));
         others = back (AllByRecursion IsNoRegister)
@@ -226,6 +234,16 @@ module _ (kept : List Symbol) (start : ℕ) (lines : List Line) where
         distinct = back AreDistinct (all_distinct are all rising);
         known = back (λ list. AllByRecursion (IsAmong list) symbols) all_known;
       }
+
+-- of names that are given, those that pass a test are given too
+given_by : (symbol : Symbol) (rest : List Symbol) (b : Bool) → IsGiven symbol → AllByRecursion IsGiven rest
+    → AllByRecursion IsGiven (cond b (symbol ∷ rest) rest)
+given_by symbol rest true is others = (is, others)
+given_by symbol rest false is others = others
+
+some_given : (test : Symbol → Bool) (names : List Symbol) → AreNames names → AllByRecursion IsGiven (filter test names)
+some_given test [] given = tt
+some_given test (symbol ∷ names) given = given_by symbol (filter test names) (test symbol) given.0 (some_given test names given.1)
 
 pub items_well_formed : (names : List Symbol) (start : ℕ) (cells : Cells) → AreNames names → AreCells cells
     → AreWellFormed (all_symbols names start cells) (items_of names start cells)
@@ -235,5 +253,5 @@ items_well_formed names start cells given are =
     let few : 0 + length cells ≤ 65536 = let most = are.few in omega (arith, most) in
     let kept_are = names_kept names given in
     let rising = lines_rising cells in
-    well_formed kept start lines kept_are (symbols_usable kept start lines kept_are rising (lines_below 65536 0 0 cells few)) rising
-    (sound_lines 65536 0 0 cells are.bytes few)
+    well_formed kept (left_out names) start lines kept_are (some_given (λ symbol. not (is_kept kept symbol)) names given)
+    (symbols_usable kept start lines kept_are rising (lines_below 65536 0 0 cells few)) rising (sound_lines 65536 0 0 cells are.bytes few)

@@ -1,5 +1,5 @@
 -- The text of a source is the text of its items.
-use Rattle.std.proofs.Common.{◌≡◌, ◌∙◌, ℕ, ◌+◌, ◌%◌, ◌<◌, ◌≤◌, Bool, true, false, List, [], ◌∷◌, ◌++◌, length, refl, sym, ap, ap₂, arith, append_assoc, append-nil}
+use Rattle.std.proofs.Common.{◌≡◌, ◌∙◌, ℕ, ◌+◌, ◌%◌, ◌<◌, ◌≤◌, Bool, true, false, List, [], ◌∷◌, ◌++◌, length, map, refl, sym, ap, ap₂, arith, append_assoc, append-nil}
 use Rattle.std.specs.Prelude.{◌==◌, codes, if◌then◌else◌}
 use Rattle.std.specs.List.{AllByRecursion, flat_map}
 use Rattle.std.proofs.lemmas.Bool.{eqb-true}
@@ -9,11 +9,11 @@ use Rattle.m11_base_disassembly.specs.Numbers.{number_text}
 use Rattle.m11_base_disassembly.specs.References.{no_references}
 use Rattle.m11_base_disassembly.specs.Texts.{statement_text}
 use Rattle.m11_base_disassembly.specs.declared.symbols.Symbol.{Symbol}
-use Rattle.m11_asm_dump_laws.specs.Items.{Item, Labelled, Assigned, MovedTo, after_item, end_text, source_of, symbol_text, texts_of}
-use Rattle.m11_dump_source.specs.Labels.{kept_of}
+use Rattle.m11_asm_dump_laws.specs.Items.{Item, Labelled, Assigned, Noted, MovedTo, after_item, end_text, source_of, symbol_text, texts_of}
+use Rattle.m11_dump_source.specs.Labels.{kept_of, left_out}
 use Rattle.m11_dump_source.specs.Lines.{lines_of, size_shown, statement_by}
 use Rattle.m11_dump_source.specs.Memory.{Cells}
-use Rattle.m11_dump_source.specs.Texts.{assignment, begins_at, label, line_text, lines_text, moving, source_text}
+use Rattle.m11_dump_source.specs.Texts.{assignment, begins_at, label, line_text, lines_text, moving, note, source_text}
 use Rattle.m11_dump_source.specs.declared.lines.Line.{Line}
 use Rattle.m11_dump_source.specs.declared.lines.Shown.{Shown}
 use Rattle.m11_dump_source.specs.declared.lines.Shown.TheVariants.{Byte, Word, TwoWords, ThreeWords}
@@ -120,25 +120,38 @@ module _ (all : List Symbol) where
       ∙ ap (λ text. assignment lines symbol ++ text) (values_written lines kept items)
       ∙ sym (append_assoc (assignment lines symbol) (flat_map (assignment lines) kept) (text_at 0 items))
 
+  -- ---- names that are left out
+
+  notes_written : (others : List Symbol) (items : List Item) → text_at 0 (map Noted others ++ items) ≡ flat_map note others ++ text_at 0 items
+  notes_written [] items = refl
+  notes_written (symbol ∷ others) items =
+      ap (λ text. note symbol ++ text) (notes_written others items) ∙ sym (append_assoc (note symbol) (flat_map note others) (text_at 0 items))
+
 -- ---- the whole text
 
-source_by : (all kept : List Symbol) (start : ℕ) (lines : List Line) → AllByRecursion (IsBelow 65536) lines
-    → ended (source_of all start (flat_map (value_of lines) kept ++ items_in all 0 lines))
-    ≡ ((codes "\t.ASECT\n" ++ flat_map (assignment lines) kept) ++ lines_text all 0 lines) ++ (end_text all start ++ codes "\n")
-source_by all kept start lines below =
-    let items : List Item = flat_map (value_of lines) kept ++ items_in all 0 lines in
+source_by : (all kept others : List Symbol) (start : ℕ) (lines : List Line) → AllByRecursion (IsBelow 65536) lines
+    → ended (source_of all start (flat_map (value_of lines) kept ++ (map Noted others ++ items_in all 0 lines)))
+    ≡ (((codes "\t.ASECT\n" ++ flat_map (assignment lines) kept) ++ flat_map note others) ++ lines_text all 0 lines)
+    ++ (end_text all start ++ codes "\n")
+source_by all kept others start lines below =
+    let items : List Item = flat_map (value_of lines) kept ++ (map Noted others ++ items_in all 0 lines) in
     let last : Bytes = end_text all start ++ codes "\n" in
     let values : Bytes = flat_map (assignment lines) kept in
+    let notes : Bytes = flat_map note others in
+    let shown : Bytes = lines_text all 0 lines in
     let first : Bytes = codes "\t.ASECT\n" in
     ap (λ text. first ++ text)
     (flat_map-append (λ text. text ++ 10 ∷ []) (texts_of all 0 items) (end_text all start ∷ [])
     ∙ ap₂ (λ text end. text ++ end)
-    (values_written all lines kept (items_in all 0 lines) ∙ ap (λ text. values ++ text) (lines_written all lines 0 below))
+    (values_written all lines kept (map Noted others ++ items_in all 0 lines)
+    ∙ ap (λ text. values ++ text) (notes_written all others (items_in all 0 lines) ∙ ap (λ text. notes ++ text) (lines_written all lines 0 below)))
     (append-nil last))
-    ∙ sym (append_assoc first (values ++ lines_text all 0 lines) last)
-    ∙ ap (λ text. text ++ last) (sym (append_assoc first values (lines_text all 0 lines)))
+    ∙ sym (append_assoc first (values ++ (notes ++ shown)) last)
+    ∙ ap (λ text. text ++ last)
+    (sym (append_assoc first values (notes ++ shown)) ∙ sym (append_assoc (first ++ values) notes shown))
 
 pub text_written : (names : List Symbol) (start : ℕ) (cells : Cells) → length cells ≤ 65536
     → source_text names start cells ≡ ended (source_of (all_symbols names start cells) start (items_of names start cells))
 text_written names start cells few =
-    sym (source_by (all_symbols names start cells) (kept_of names) start (lines_of cells) (lines_below 65536 0 0 cells (omega (arith, few))))
+    sym (source_by (all_symbols names start cells) (kept_of names) (left_out names) start (lines_of cells)
+    (lines_below 65536 0 0 cells (omega (arith, few))))

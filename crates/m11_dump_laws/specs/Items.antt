@@ -1,13 +1,13 @@
--- The items of the source that shows what memory holds: the names that stand for no line, and for each line a move of the location counter
--- where one is needed, its labels, and what it shows. (MACRO-11 Language Reference Manual, "Label field", "Direct assignment statements" and
--- "Current location counter".)
-use Rattle.std.specs.Prelude.{ℕ, ◌+◌, ◌<◌, ◌≤◌, ◌==◌, if◌then◌else◌, List, [], ◌∷◌, ◌++◌, length, Option, Some, None}
+-- The items of the source that shows what memory holds: the names that stand for no line, the names that it can't define, and for each line a
+-- move of the location counter where one is needed, its labels, and what it shows. (MACRO-11 Language Reference Manual, "Label field", "Comment
+-- field", "Direct assignment statements" and "Current location counter".)
+use Rattle.std.specs.Prelude.{ℕ, ◌+◌, ◌<◌, ◌≤◌, ◌==◌, if◌then◌else◌, List, [], ◌∷◌, ◌++◌, length, map, Option, Some, None}
 use Rattle.std.specs.List.{AllByRecursion, flat_map}
 use Rattle.m11_base.specs.Devices.{Bytes}
 use Rattle.m11_base.specs.Rad50.{IsName}
 use Rattle.m11_base_disassembly.specs.declared.symbols.Symbol.{Symbol}
-use Rattle.m11_asm_dump_laws.specs.Items.{Item, Labelled, Assigned, MovedTo, Shows, ShowsByte}
-use Rattle.m11_dump_source.specs.Labels.{kept_of, symbols_in}
+use Rattle.m11_asm_dump_laws.specs.Items.{Item, Labelled, Assigned, Noted, MovedTo, Shows, ShowsByte}
+use Rattle.m11_dump_source.specs.Labels.{kept_of, left_out, symbols_in}
 use Rattle.m11_dump_source.specs.Lines.{lines_of, size_shown}
 use Rattle.m11_dump_source.specs.Memory.{Cells}
 use Rattle.m11_dump_source.specs.Texts.{begins_at}
@@ -51,13 +51,13 @@ items_in symbols here (line ∷ lines) = line_items symbols here line ++ items_i
 abbrev pub value_of : List Line → Symbol → List Item
 value_of lines symbol = if begins_at lines symbol.value then [] else Assigned symbol ∷ []
 
--- the items of these lines, where these names are given
-abbrev pub items_by : List Symbol → ℕ → List Line → List Item
-items_by kept start lines = flat_map (value_of lines) kept ++ items_in (symbols_in kept start lines) 0 lines
+-- the items of these lines, where the first names are kept and the others are left out
+abbrev pub items_by : List Symbol → List Symbol → ℕ → List Line → List Item
+items_by kept others start lines = flat_map (value_of lines) kept ++ (map Noted others ++ items_in (symbols_in kept start lines) 0 lines)
 
 -- the items of what memory holds, with these names and this transfer address
 abbrev pub items_of : List Symbol → ℕ → Cells → List Item
-items_of names start cells = items_by (kept_of names) start (lines_of cells)
+items_of names start cells = items_by (kept_of names) (left_out names) start (lines_of cells)
 
 -- all symbols of the source of what memory holds
 abbrev pub all_symbols : List Symbol → ℕ → Cells → List Symbol

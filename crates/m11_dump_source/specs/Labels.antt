@@ -1,11 +1,11 @@
 -- The symbols of a source: the names that are given for it, and a name for each other address that an operand names and where a line begins.
 -- (MACRO-11 Language Reference Manual, "Symbols" and "Permanent symbol table". The form of the names that are made is this project's own.)
-use Rattle.std.specs.Prelude.{ℕ, ◌==◌, ◌&&◌, not, nat_le, nat_lt, Bool, true, if◌then◌else◌, List, [], ◌∷◌, ◌++◌, Option, Some, None, codes, drop, is_none, slice_index}
+use Rattle.std.specs.Prelude.{ℕ, ◌==◌, ◌&&◌, not, nat_le, nat_lt, Bool, true, if◌then◌else◌, List, [], ◌∷◌, ◌++◌, Option, Some, None, codes, drop, filter, is_none, slice_index}
 use Rattle.std.specs.List.{flat_map, list_all, list_any}
 use Rattle.std.specs.Str.{bytes_eq}
 use Rattle.m11_base.specs.Devices.{Bytes}
 use Rattle.m11_base.specs.Octal.{octal_text}
-use Rattle.m11_base.specs.Rad50.{Name, name_of, name_text}
+use Rattle.m11_base.specs.Rad50.{Name, is_same_name, name_of, name_text}
 use Rattle.m11_base_disassembly.specs.Names.{bare_name}
 use Rattle.m11_base_disassembly.specs.OperandAddresses.{addresses_of}
 use Rattle.m11_base_disassembly.specs.Symbols.{value_named}
@@ -59,6 +59,20 @@ kept_after kept (symbol ∷ symbols) =
 
 abbrev pub kept_of : List Symbol → List Symbol
 kept_of symbols = kept_after [] symbols
+
+-- ---- the names that are left out
+
+-- one of these has the symbol's name and its value
+abbrev pub is_kept : List Symbol → Symbol → Bool
+is_kept kept symbol = list_any (λ other. is_same_name other.name symbol.name && other.value == symbol.value) kept
+
+-- the symbols of a list of which none of these has the name and the value
+abbrev pub left_by : List Symbol → List Symbol → List Symbol
+left_by kept symbols = filter (λ symbol. not (is_kept kept symbol)) symbols
+
+-- the symbols that are given, but whose values the source doesn't say: no symbol that is kept has both their name and their value
+abbrev pub left_out : List Symbol → List Symbol
+left_out symbols = left_by (kept_of symbols) symbols
 
 -- ---- the names that are made
 

@@ -1,6 +1,6 @@
--- The text of a source that means what memory holds: in the absolute section definitions of the names that stand for no line, and the lines
--- with their labels; and the transfer address. (MACRO-11 Language Reference Manual, "Assembler statements", "Direct assignment statements",
--- ".ASECT directive", "Current location counter", ".END directive".)
+-- The text of a source that means what memory holds: in the absolute section definitions of the names that stand for no line, comments for the
+-- names that it can't define, and the lines with their labels; and the transfer address. (MACRO-11 Language Reference Manual, "Assembler
+-- statements", "Comment field", "Direct assignment statements", ".ASECT directive", "Current location counter", ".END directive".)
 use Rattle.std.specs.Prelude.{ℕ, Bool, ◌+◌, ◌%◌, ◌==◌, if◌then◌else◌, List, [], ◌∷◌, ◌++◌, codes}
 use Rattle.std.specs.List.{flat_map, list_any}
 use Rattle.m11_base.specs.Devices.{Bytes}
@@ -11,7 +11,7 @@ use Rattle.m11_base_disassembly.specs.References.{no_references}
 use Rattle.m11_base_disassembly.specs.Symbols.{address_text}
 use Rattle.m11_base_disassembly.specs.Texts.{statement_text}
 use Rattle.m11_base_disassembly.specs.declared.symbols.Symbol.{Symbol}
-use Rattle.m11_dump_source.specs.Labels.{kept_of, symbols_in}
+use Rattle.m11_dump_source.specs.Labels.{kept_of, left_out, symbols_in}
 use Rattle.m11_dump_source.specs.Lines.{lines_of, size_shown, statement_in}
 use Rattle.m11_dump_source.specs.Memory.{Cells}
 use Rattle.m11_dump_source.specs.declared.lines.Line.{Line}
@@ -27,6 +27,10 @@ begins_at lines address = list_any (λ line. line.address == address) lines
 abbrev pub assignment : List Line → Symbol → Bytes
 assignment lines symbol = if begins_at lines symbol.value then []
     else (symbol_text symbol ++ codes "=" ++ number_text symbol.value) ++ codes "\n"
+
+-- a comment that says the value of a symbol which the source doesn't define
+abbrev pub note : Symbol → Bytes
+note symbol = (codes "; " ++ symbol_text symbol ++ codes "=" ++ number_text symbol.value) ++ codes "\n"
 
 -- the label of an address, in a line of its own, so that no line is too long
 abbrev pub label : ℕ → Symbol → Bytes
@@ -51,11 +55,11 @@ lines_text symbols here (line ∷ lines) =
 abbrev pub end_text : List Symbol → ℕ → Bytes
 end_text symbols start = (codes "\t.END" ++ (if start % 2 == 0 then codes "\t" ++ address_text symbols start else [])) ++ codes "\n"
 
--- the source of these lines, with these symbols that were given
-abbrev pub text_by : List Symbol → ℕ → List Line → Bytes
-text_by kept start lines = ((codes "\t.ASECT\n" ++ flat_map (assignment lines) kept) ++ lines_text (symbols_in kept start lines) 0 lines)
-    ++ end_text (symbols_in kept start lines) start
+-- the source of these lines, with the symbols that are kept of those that were given, and those that are left out
+abbrev pub text_by : List Symbol → List Symbol → ℕ → List Line → Bytes
+text_by kept others start lines = (((codes "\t.ASECT\n" ++ flat_map (assignment lines) kept) ++ flat_map note others)
+    ++ lines_text (symbols_in kept start lines) 0 lines) ++ end_text (symbols_in kept start lines) start
 
 -- the source of what memory holds, with these names and this transfer address
 abbrev pub source_text : List Symbol → ℕ → Cells → Bytes
-source_text symbols start cells = text_by (kept_of symbols) start (lines_of cells)
+source_text symbols start cells = text_by (kept_of symbols) (left_out symbols) start (lines_of cells)

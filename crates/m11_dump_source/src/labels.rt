@@ -94,6 +94,13 @@ pub(crate) fn kept_of(alloc: Global, symbols: &[Symbol]) -> Result<Vec<Symbol>, 
     Ok(kept)
 }
 
+/// Whether one of these has the symbol's name and its value.
+pub(crate) fn is_kept(kept: &[Symbol], symbol: &Symbol) -> bool
+    ensures { result ≡ spec.is_kept kept.now symbol.now }
+{
+    kept.iter().any(|other| other.name == symbol.name && other.value == symbol.value)
+}
+
 // Marks these addresses.
 fn mark(marks: &mut Vec<bool>, addresses: &[u16])
     requires { length marks.old.items ≡ 65536 }

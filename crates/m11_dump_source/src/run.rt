@@ -43,8 +43,8 @@ fn tape_source(alloc: Global, symbols: &[Symbol], tape: &WholeTape) -> Result<Ve
 /// Writes a tape as a source, which the assembler and the linker turn into what memory holds after the tape was loaded: lines of instructions
 /// and data from `.ASECT` to `.END`, in the order of their addresses. Addresses that operands name have labels, as far as a line begins there:
 /// the names that `symbols` give them, or else names such as `L01000`. Symbols with other values are assigned theirs at the beginning. Of
-/// symbols with one name the first counts, and those that a source can't define are left out. Nothing is read after the transfer block, and
-/// nothing is written before it was read.
+/// symbols with one name the first counts; those that a source can't define, and further values of a name, are comments at the beginning. Nothing
+/// is read after the transfer block, and nothing is written before it was read.
 ///
 /// Errors: `Tape`, if the tape can't be read; `Write`, if the sink failed, after part of the source was written; `NoMemory`.
 pub fn write_source<F: Feed, S: Sink>(

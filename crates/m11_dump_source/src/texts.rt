@@ -2,10 +2,10 @@
 
 ghost use Rattle.std.specs.Prelude.{◌≡◌, ◌≤◌, ◌++◌, IfOk, OnOk, length};
 ghost use Rattle.std.specs.List.{flat_map, list_any};
-ghost use Rattle.m11_dump_source.specs.Labels.{symbols_in};
+ghost use Rattle.m11_dump_source.specs.Labels.{left_by, symbols_in};
 ghost use Rattle.m11_dump_source.specs.Texts as spec;
 
-use crate::labels::{kept_of, symbols_in};
+use crate::labels::{is_kept, kept_of, symbols_in};
 use crate::lines::{Line, lines_of, source_of};
 use m11_base_disassembly::{Symbol, address_source, name_source, number_source};
 use std::alloc::{AllocError, Global};
@@ -37,6 +37,31 @@ fn put_assignments(text: &mut Vec<u8>, lines: &[Line], symbols: &[Symbol]) -> Re
     let mut rest = symbols;
     'symbols: while let [symbol, others @ ..] = rest {
         put_assignment(text, lines, symbol)?;
+        rest = others;
+    }
+    Ok(())
+}
+
+// Adds the comment that says the value of a symbol. Fails if memory is refused.
+fn put_note(text: &mut Vec<u8>, symbol: &Symbol) -> Result<(), AllocError>
+    ensures { OnOk result (text.new.items ≡ text.old.items ++ spec.note symbol.now) }
+{
+    text.extend_from_slice(b"; ")?;
+    text.extend_from_slice(&name_source(symbol.name))?;
+    text.extend_from_slice(b"=")?;
+    text.extend_from_slice(&number_source(symbol.value))?;
+    text.extend_from_slice(b"\n")
+}
+
+// Adds a comment for each symbol of which none of those that are kept has the name and the value. Fails if memory is refused.
+fn put_notes(text: &mut Vec<u8>, kept: &[Symbol], symbols: &[Symbol]) -> Result<(), AllocError>
+    ensures { OnOk result (text.new.items ≡ text.old.items ++ flat_map spec.note (left_by kept.now symbols.now)) }
+{
+    let mut rest = symbols;
+    'symbols: while let [symbol, others @ ..] = rest {
+        if !is_kept(kept, symbol) {
+            put_note(text, symbol)?;
+        }
         rest = others;
     }
     Ok(())
@@ -122,6 +147,7 @@ pub(crate) fn source_text(
     let mut text = Vec::new(alloc);
     text.extend_from_slice(b"\t.ASECT\n")?;
     put_assignments(&mut text, &lines, &kept)?;
+    put_notes(&mut text, &kept, symbols)?;
     put_lines(&mut text, &all, &lines)?;
     put_end(&mut text, &all, start)?;
     Ok(text)
