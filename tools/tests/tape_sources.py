@@ -2,7 +2,8 @@
 tools/test.py.
 
 They run if the variables M11 and M11_DUMP name built programs. The tapes are those of the examples, with and without the names of their maps, and random
-ones with up to eight blocks, which may overlap, continue others, and begin and end anywhere. A random tape may look like an object, so `-t` is given."""
+ones with up to eight blocks, which may overlap, continue others, and begin and end anywhere. A random tape may look like an object, so `-t` is given.
+One tape is shown with names that a source can't define; its source was written by hand."""
 import os
 import random
 import subprocess
@@ -28,6 +29,27 @@ PROGRAMS = {
     **{name: [["monitor/EMTS.MAC", f"monitor/{name}.MAC"], ["monitor/MONITOR.MAC"]] for name in ("GREET", "LIFE", "LOWER")},
 }
 TAPES = ("sim/ECHO.TAP", "sim/HELLO.TAP")
+# The program at 1000 moves 5 into R0 and goes back; S is its start, where a line begins.
+PROGRAM = (0o012700, 5, 0o000775)
+# Names in the order of a map: two that a source has, some that it can't define, and values that come again.
+GIVEN = (("ONE", 5), ("R0", 7), ("S", 0o1000), ("ONE", 6), ("1X", 0o10), ("S", 0o1000), ("A B", 0o11), (".", 0o1002), ("R0", 7), ("PC", 0o177777),
+         ("ONE", 5))
+WITH_NOTES = b"""\
+\t.ASECT
+ONE=5
+; R0=7
+; ONE=6
+; 1X=10
+; A=11
+; .=1002
+; R0=7
+; PC=177777
+\t.=1000
+S:
+\tMOV    #5,R0
+\tBR     S
+\t.END\tS
+"""
 
 
 def block(address, content):
@@ -138,6 +160,15 @@ def check_random(room):
     return wrong
 
 
+def check_left_out(room):
+    """Names that a source can't define, and further values of a name."""
+    room.write("A.TAP", block(0o1000, b"".join(word.to_bytes(2, "little") for word in PROGRAM)) + block(0o1000, b""))
+    room.write("A.MAP", ("GLOBALS\n" + "".join(f"{name:6} {value:06o} A\n" for name, value in GIVEN) + "UNDEFINED\n").encode())
+    status, source, said = room.call(room.dump, "-s", "-y", "A.MAP", "A.TAP")
+    wrong = [] if (status, source) == (0, WITH_NOTES) else [f"status {status}, {said}{source}"]
+    return wrong + [why for why in [room.why_other("A.TAP", ["-y", "A.MAP"])] if why]
+
+
 def check(of):
     """What is wrong, or nothing if the programs aren't named."""
     if not (os.environ.get("M11") and os.environ.get("M11_DUMP")):
@@ -146,4 +177,5 @@ def check(of):
         return of(Room(folder))
 
 
-CHECKS = [("dump-sources-of-examples", check, (check_examples,)), ("dump-sources-of-random-tapes", check, (check_random,))]
+CHECKS = [("dump-sources-of-examples", check, (check_examples,)), ("dump-sources-of-random-tapes", check, (check_random,)),
+          ("dump-sources-with-names-left-out", check, (check_left_out,))]
