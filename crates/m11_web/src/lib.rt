@@ -22,3 +22,6 @@ pub use running::{Told, m11_go_on, m11_load};
 mod laws;
 
 pub use laws::a_request_has_one_reading;
+
+#[cfg(test)]
+mod tests;
