@@ -1,9 +1,10 @@
 -- What the caller's memory has after a load and after a slice of a run. (This project's own.)
-use Rattle.std.specs.Prelude.{◌≡◌, ℕ, ◌+◌, ◌*◌, Bool, Some, Ok, length}
+use Rattle.std.specs.Prelude.{◌≡◌, ℕ, ◌+◌, ◌*◌, Bool, Some, Ok, Err, length}
 use Rattle.m11_base.specs.Devices.{Bytes}
 use Rattle.m11_base.specs.Feed.{Ends}
 use Rattle.m11_base.specs.declared.operand.Register.TheVariants.{Pc}
 use Rattle.m11_cpu.specs.Simulation.{Loaded}
+use Rattle.m11_cpu.specs.declared.fault.LoadFault.{LoadFault}
 use Rattle.m11_cpu_machine.specs.Dialogue.{Input, input_of}
 use Rattle.m11_cpu_machine.specs.Machine.{with_register}
 use Rattle.m11_cpu_machine.specs.Status.{bit}
@@ -21,9 +22,18 @@ Starts words tape start state = (m : Machine) × (tape' : Input)
     × Loaded words (input_of (Some (record { bytes = tape; ending = Ends })) 0) tape' m (Ok start)
     × (state ≡ state_of (with_register Pc start m))
 
+-- a new machine with so many words of memory can't load this tape, for this fault
+abbrev pub Fails : ℕ → Bytes → Type 0
+Fails words tape = (m : Machine) × (tape' : Input) × (fault : LoadFault)
+    × Loaded words (input_of (Some (record { bytes = tape; ending = Ends })) 0) tape' m (Err fault)
+
 -- the caller's memory, whose length says how many words the machine has, gets the state of a machine that loaded this tape
 abbrev pub Loads : Bytes → Bytes → Bytes → ℕ → Type 0
 Loads tape old new start = (words : ℕ) × (length old ≡ 28 + 2 * words) × Starts words tape start new
+
+-- a machine with as many words as the length of the caller's memory says can't load this tape
+abbrev pub FailsToLoad : Bytes → Bytes → Type 0
+FailsToLoad tape state = (words : ℕ) × (length state ≡ 28 + 2 * words) × Fails words tape
 
 -- what a slice tells
 abbrev pub Tells : Slice → Told → Type 0

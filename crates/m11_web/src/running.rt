@@ -1,8 +1,8 @@
 //! A machine whose state belongs to the caller: a tape is loaded into it, and it makes some steps at a time.
 
-ghost use Rattle.std.specs.Prelude.{◌≡◌, ◌<◌, ◌≤◌, IfOk, IfSome};
+ghost use Rattle.std.specs.Prelude.{◌≡◌, ◌<◌, ◌≤◌, IfOk, IfSome, MatchOption};
 ghost use Rattle.m11_cpu_machine.specs.Memory.{least_words, most_words};
-ghost use Rattle.m11_web.specs.Running.{GoesOn, Loads, Starts, Tells};
+ghost use Rattle.m11_web.specs.Running.{Fails, FailsToLoad, GoesOn, Loads, Starts, Tells};
 
 use crate::answers::hand_over;
 use crate::refusal::Refusal;
@@ -18,6 +18,7 @@ use std::alloc::Global;
 #[unsafe(no_mangle)]
 pub extern "C" fn m11_load(alloc: Global, tape: &[u8], state: &mut [u8]) -> u32
     ensures loads { result < 65536 → Loads tape.now state.old state.new result }
+    ensures fails { result ≡ 65536 → FailsToLoad tape.now state.old }
     ensures refuses { 65536 ≤ result → state.new ≡ state.old }
 {
     let Some(words) = words_of(state.len()) else {
@@ -49,7 +50,8 @@ struct Loaded {
 fn load_tape(alloc: Global, tape: &[u8], words: u16) -> Result<Option<Loaded>, Refusal>
     requires least { least_words ≤ words }
     requires most { words ≤ most_words }
-    ensures { IfOk result (λ some. IfSome some (λ loaded. Starts words tape.now loaded.start loaded.state.items)) }
+    ensures { IfOk result (λ some. MatchOption some (Fails words tape.now)
+        (λ loaded. Starts words tape.now loaded.start loaded.state.items)) }
 {
     let mut feed = MemoryFeed::new(tape);
     let mut machine = Machine::new(alloc, words)?;
