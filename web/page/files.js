@@ -10,18 +10,21 @@ const SOURCE = /\.(mac|m11|pal|s)$/i;
 export const OBJECT = /\.obj$/i;
 export const TAPE = /\.tap$/i;
 
+// Characters that control a text instead of being seen in it, among them those that turn its direction.
+const CONTROLS = /[\p{Cc}\p{Cs}\p{Zl}\p{Zp}\p{Bidi_Control}]/gu;
+
 /** What is wrong with a name of a file, or nothing. */
 export function nameFault(name) {
   if (name.trim() === '') return 'A name is needed.';
   if ([...name].length > 64) return 'A name has at most 64 characters.';
   if (/[/\\]/.test(name) || name === '.' || name === '..') return 'A name has no slashes.';
-  if (/[\p{Cc}\p{Cs}\p{Zl}\p{Zp}]/u.test(name)) return 'A name has no control characters.';
+  if (name.search(CONTROLS) >= 0) return 'A name has no control characters.';
   return '';
 }
 
 /** A name for a file from elsewhere, which may have any name. */
 export function tamed(name) {
-  const kept = [...name.replace(/[/\\]/g, '_').replace(/[\p{Cc}\p{Cs}\p{Zl}\p{Zp}]/gu, '_')].slice(0, 64).join('');
+  const kept = [...name.replace(/[/\\]/g, '_').replace(CONTROLS, '_')].slice(0, 64).join('');
   return nameFault(kept) ? 'FILE' : kept;
 }
 
