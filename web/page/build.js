@@ -8,6 +8,10 @@ import { faultWords, flagWords, linkWords } from './words.js';
 // A source before all others that lists the lines of expansions too. Listings with them are for the machine's view alone.
 const LISTED_ALL = '\u0001LIST.MAC';
 const LIST_ALL = utf8('\t.LIST\tME\n');
+const LINES = new WeakMap();
+/** So many messages of a link lead to a line; the names of more aren't looked for. */
+const MOST_LED = 50;
+const MOST_REPORTED = 10000;
 
 /** What a build has made: messages, objects, listings, tape, map, load map, and the places of lines. */
 class Built {
@@ -112,10 +116,29 @@ export function placeOf(module, number) {
   return { file: last.file, line: Math.max(1, last.lines) };
 }
 
+// The lines of a source, which many messages may ask for.
+function linesOf(source) {
+  const known = LINES.get(source);
+  if (known?.text === source.text) return known.lines;
+  const lines = source.text.split('\n');
+  LINES.set(source, { text: source.text, lines });
+  return lines;
+}
+
+// Whether the text of a message isn't that of its line, but of an expansion that the line calls.
+function isExpanded(module, place, text) {
+  const source = linesOf(module.sources.find(file => file.name === place.file).source)[place.line - 1] ?? '';
+  // A message has a question mark for what doesn't print, and 132 characters at most.
+  const printed = line => line.trim().replace(/[^ -~]|\?/g, '');
+  return text !== '' && !printed(source).startsWith(printed(text));
+}
+
 function messageOf(line, module) {
   const flagged = /^([A-Z]+) (\d+):(?: (.*))?$/.exec(line);
   if (flagged) {
-    return { isError: true, ...placeOf(module, Number(flagged[2])), flags: flagged[1], words: flagWords(flagged[1]), text: flagged[3] ?? '' };
+    const place = placeOf(module, Number(flagged[2]));
+    const text = (flagged[3] ?? '').trim();
+    return { isError: true, ...place, flags: flagged[1], words: flagWords(flagged[1]), text: isExpanded(module, place, text) ? `here as ${text}` : text };
   }
   const counted = /^ERRORS DETECTED: (\d+)$/.exec(line);
   if (counted) return { text: `${module.file.name}: ${line}`, isCount: true };
@@ -130,9 +153,8 @@ function link(engine, plan, built, options) {
   const words = ['m11', 'link', `--output=${built.tapeName}`, `--map=${built.mapName}`, ...bottomOf(options), '--', ...objects.map(object => object.name)];
   const answer = engine.command(words, objects, new Uint8Array(0));
   for (const [path, bytes] of answer.made) built.outputs.set(path, bytes);
-  for (const line of textOf(answer.messages).split('\n')) {
-    if (line) built.messages.push(linkMessage(line, plan));
-  }
+  const lines = textOf(answer.messages).split('\n').filter(line => line);
+  built.messages.push(...lines.slice(0, MOST_REPORTED).map((line, number) => linkMessage(line, plan, number < MOST_LED)));
   built.isGood = answer.status === 0;
   if (!built.isGood) {
     built.outputs.delete(built.tapeName);
@@ -147,9 +169,9 @@ function bottomOf(options) {
 }
 
 // A message of the linker, with the first line of a source that has the name which it is about.
-function linkMessage(line, plan) {
+function linkMessage(line, plan, isLed) {
   const name = /^(?:UNDEFINED GLOBAL|MULTIPLE DEFINITION) (\S+)/.exec(line)?.[1];
-  return { isError: true, text: line, words: linkWords(line) || faultWords(line), ...(name ? whereNamed(plan, name) : {}) };
+  return { isError: true, text: line, words: linkWords(line) || faultWords(line), ...(name && isLed ? whereNamed(plan, name) : {}) };
 }
 
 function whereNamed(plan, name) {
@@ -158,7 +180,7 @@ function whereNamed(plan, name) {
   const form = new RegExp(`(?:^|[^A-Z0-9$.])${letters}${name.length === 6 ? '[A-Z0-9$.]*' : ''}(?![A-Z0-9$.])`, 'i');
   for (const module of plan.modules) {
     for (const file of module.sources) {
-      const line = file.source.text.split('\n').findIndex(text => form.test(text.replace(/;.*/, '')) && !/^\s*\.GLOBL/i.test(text));
+      const line = linesOf(file.source).findIndex(text => form.test(text.replace(/;.*/, '')) && !/^\s*\.GLOBL/i.test(text));
       if (line >= 0) return { file: file.name, line: line + 1 };
     }
   }

@@ -21,7 +21,7 @@ function item(message, goTo) {
   const kind = message.isError ? 'error' : 'note';
   const flags = message.flags ? make('b', { class: 'flags' }, message.flags) : '';
   const words = message.words ? make('span', { class: 'words' }, message.words) : '';
-  const text = make(message.flags ? 'code' : 'span', { class: 'text' }, message.flags ? message.text.trim() : message.text);
+  const text = make(message.flags ? 'code' : 'span', { class: 'text' }, message.text);
   const parts = message.flags ? [flags, ' ', words, ' ', text] : [text, ' ', words];
   if (!message.file) return make('li', { class: kind }, ...parts);
   const place = make('span', { class: 'place' }, `${message.file}:${message.line}`);

@@ -6,7 +6,6 @@ import os
 import select
 import shutil
 import signal
-import subprocess
 import tempfile
 import time
 
@@ -26,26 +25,29 @@ class Failed(Exception):
     """What the browser refused, or what did not come to be in time."""
 
 
+def beyond(end):
+    """An end of a pipe under a number so high that the browser's own two, 3 and 4, don't take it away."""
+    high = fcntl.fcntl(end, fcntl.F_DUPFD_CLOEXEC, 64)
+    os.close(end)
+    return high
+
+
 class Browser:
     """A browser without a window. Its files are in a folder that goes with it, unless one is given."""
 
     def __init__(self, profile=None, arguments=()):
         self.own = None if profile else tempfile.mkdtemp(prefix="m11-browser-")
         self.profile = profile or self.own
-        # Numbers above 4, so that no end of a pipe has the number of another before it is put in its place.
-        ends = [fcntl.fcntl(end, fcntl.F_DUPFD, 10) for end in (*os.pipe(), *os.pipe())]
-        from_us, self.to, self.at, to_us = ends
-
-        def child():
-            os.dup2(from_us, 3)
-            os.dup2(to_us, 4)
-
+        asked, self.to = map(beyond, os.pipe())
+        self.at, answered = map(beyond, os.pipe())
         words = [found(), "--headless=new", "--no-sandbox", "--disable-gpu", "--disable-dev-shm-usage", "--no-first-run", "--hide-scrollbars",
                  f"--user-data-dir={self.profile}", "--remote-debugging-pipe", *arguments, "about:blank"]
-        self.process = subprocess.Popen(words, preexec_fn=child, pass_fds=(3, 4, from_us, to_us), stdin=subprocess.DEVNULL,
-                                        stdout=subprocess.DEVNULL, stderr=subprocess.DEVNULL, start_new_session=True)
-        os.close(from_us)
-        os.close(to_us)
+        # The browser reads what it is asked from 3, and answers to 4.
+        places = [(os.POSIX_SPAWN_DUP2, asked, 3), (os.POSIX_SPAWN_DUP2, answered, 4),
+                  *[(os.POSIX_SPAWN_OPEN, number, os.devnull, os.O_RDWR, 0) for number in (0, 1, 2)]]
+        self.process = os.posix_spawn(words[0], words, os.environ, file_actions=places, setpgroup=0)
+        os.close(asked)
+        os.close(answered)
         self.number, self.buffer, self.events = 0, b"", []
 
     def __enter__(self):
@@ -54,13 +56,22 @@ class Browser:
     def __exit__(self, *_):
         self.close()
 
+    def has_ended(self, seconds):
+        end = time.monotonic() + seconds
+        while time.monotonic() < end:
+            if os.waitpid(self.process, os.WNOHANG)[0]:
+                return True
+            time.sleep(0.02)
+        return False
+
     def close(self):
         try:
             self.call("Browser.close")
-            self.process.wait(10)
-        except (Failed, OSError, subprocess.TimeoutExpired):
-            os.killpg(self.process.pid, signal.SIGKILL)
-            self.process.wait()
+        except (Failed, OSError):
+            pass
+        if not self.has_ended(10):
+            os.killpg(self.process, signal.SIGKILL)
+            os.waitpid(self.process, 0)
         os.close(self.to)
         os.close(self.at)
         if self.own:

@@ -59,7 +59,7 @@ class Given:
             return "no page was opened"
         faults = [event["params"]["exceptionDetails"].get("exception", {}).get("description") for event in self.browser.events
                   if event.get("method") == "Runtime.exceptionThrown"]
-        shown = {name: self.last.text(f"#{name}") for name in ("notice-text", "messages-list", "machine-state", "console-state")}
+        shown = {name: self.last.text(f"#{name}")[:500] for name in ("notice-text", "messages-list", "machine-state", "console-state")}
         return json.dumps({**shown, "faults": faults, "dialogs": self.last.see("[...document.querySelectorAll('dialog[open]')].map(one => one.id)")})
 
     def file(self, name, data):

@@ -202,6 +202,12 @@ def four_megabytes_of_source(given):
     page.key("F9")
     page.wait("document.querySelector('#messages-list').textContent.includes('?M11 ASM 6 TooMuchSource')", 60)
     check("4,194,304 bytes" in page.text("#messages-list"), page.text("#messages-list"))
+    # A message for each of 30,000 lines.
+    page.give_files("#pick-files", [given.file("FLAGS.MAC", "\tMOV\tR0 R1\n" * 30000)])
+    page.wait("document.querySelector('#tabs [aria-selected=true]')?.textContent === 'FLAGS.MAC'", 60)
+    page.key("F9")
+    page.wait("document.querySelector('#messages-count').textContent.replace(/\\D/g, '') === '30002'", 30)
+    check("and 29504 more" in page.text("#messages-list"), page.text("#messages-list")[-200:])
 
 
 @test

@@ -29,8 +29,9 @@ def a_message_leads_to_its_line(given):
     page.key("F9")
     page.wait("document.querySelectorAll('#messages-list .error').length > 1")
     messages = page.text("#messages-list")
-    for words in ("PRIMES.MAC:36", "AQ", "MOV\t#EOL R0", "is missing, or left over", "branch out of reach"):
+    for words in ("PRIMES.MAC:36", "AQ", "here as MOV\t#EOL R0", "is missing, or left over", "branch out of reach"):
         check(words in messages, f"{words} isn't in {messages}")
+    same(page.see("[...document.querySelectorAll('#messages-list code')].at(-1).textContent"), "BR\tNOWHERE")
     page.see("document.querySelector('#editor .source:not([hidden])').scrollTop = 0")
     page.press_text("#messages-list .leads", "BR\tNOWHERE")
     check("NOWHERE" in selected(page), selected(page))
