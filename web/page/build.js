@@ -11,6 +11,7 @@ const LIST_ALL = utf8('\t.LIST\tME\n');
 const LINES = new WeakMap();
 /** So many messages of a link lead to a line; the names of more aren't looked for. */
 const MOST_LED = 50;
+/** More messages of a link than this are left out; there are that many only if nearly all globals are undefined. */
 const MOST_REPORTED = 10000;
 
 /** What a build has made: messages, objects, listings, tape, map, load map, and the places of lines. */
