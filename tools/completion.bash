@@ -72,11 +72,12 @@ _m11_build() {
     case ${COMP_WORDS[COMP_CWORD - 1]} in
         -o | --output) _m11_files "${COMP_WORDS[COMP_CWORD]}" TAP ;;
         -m | --map) _m11_files "${COMP_WORDS[COMP_CWORD]}" MAP ;;
+        --load-map) _m11_files "${COMP_WORDS[COMP_CWORD]}" LM MAP ;;
         -s | --save) _m11_files "${COMP_WORDS[COMP_CWORD]}" SAV ;;
         -L | --library) _m11_files "${COMP_WORDS[COMP_CWORD]}" OBJ ;;
         -y | --macros) _m11_files "${COMP_WORDS[COMP_CWORD]}" MAC SML ;;
         -l | --listings | -i | --include) _m11_files "${COMP_WORDS[COMP_CWORD]}" ;;
-        *) _m11_words "${COMP_WORDS[COMP_CWORD]}" '-o --output -m --map -l --listings -L --library -y --macros -i --include -s --save -r --run --strict -v --verbose -h --help' MAC OBJ ;;
+        *) _m11_words "${COMP_WORDS[COMP_CWORD]}" '-o --output -m --map --load-map -l --listings -L --library -y --macros -i --include -s --save -r --run --strict -v --verbose -h --help' MAC OBJ ;;
     esac
 }
 

@@ -62,6 +62,22 @@ class Link:
                 return self.status
             self.modules += new
 
+    def write_load_map(self, path):
+        """Writes where the link stores each module, by m11-dump."""
+        dump = self.dump()
+        if dump is None:
+            raise Refused("there is no program m11-dump beside m11", 70)
+        done = run(dump, "-m", "--", *(module.object for module in self.modules))
+        if done.returncode:
+            raise Refused(f"there is no load map: {os.fsdecode(done.stderr).strip()}", done.returncode)
+        with open(path, "wb") as file:
+            file.write(done.stdout)
+
+    def dump(self):
+        """The path of m11-dump beside m11, or None."""
+        beside = os.path.join(os.path.dirname(self.m11), "m11-dump")
+        return beside if os.access(beside, os.X_OK) else None
+
     def take(self, name):
         """The module of the first library that defines a global."""
         for library in self.libraries:
@@ -129,8 +145,7 @@ class Link:
 
     def fault(self, message):
         """A fault with the object that it is about, which a link of that alone has too."""
-        beside = os.path.join(os.path.dirname(self.m11), "m11-dump")
-        objects = Objects(self.m11, beside if os.access(beside, os.X_OK) else None, [module.object for module in self.modules])
+        objects = Objects(self.m11, self.dump(), [module.object for module in self.modules])
         text = os.fsdecode(objects.named(message.encode("latin-1")))
         for module in self.modules:
             if text.startswith(module.object + ": "):

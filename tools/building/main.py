@@ -20,7 +20,7 @@ from .strict import Strict
 from .summary import summary
 
 ABOUT = """Adapts MACRO-11 sources, as they are found, assembles them, links them with objects and with what libraries have,
-and writes a tape, a map, listings and a SAV image, or runs the program. A FILE is a source, several sources that are one
+and writes a tape, maps, listings and a SAV image, or runs the program. A FILE is a source, several sources that are one
 module, A.MAC+B.MAC, an object, or a library of objects. Messages name files and lines of the sources as they were found.
 If something is wrong, no output is left, not even an older one."""
 STATUS = """Status 0: all was done, and with -r the run halted. 1: a line is flagged or can't be adapted, the link has messages, -s or
@@ -37,6 +37,8 @@ def words(argv):
     parser.add_argument("-o", "--output", metavar="TAPE", help="the tape to write")
     parser.add_argument("-m", "--map", metavar="MAP", help="the map of the link to write")
     parser.add_argument("-l", "--listings", metavar="FOLDER", help="the folder to write listings to, each under the name of its source's file")
+    parser.add_argument("--load-map", metavar="MAP", help="the load map to write: with the listings it gives the names of all labels to -y of m11-debug, "
+                                                          "m11-trace and m11-dump")
     parser.add_argument("-L", "--library", metavar="LIBRARY", action="append", default=[],
                         help="a library of objects, from which the link takes the modules that it needs; may be given again")
     parser.add_argument("-y", "--macros", metavar="MACROS", action="append", default=[],
@@ -79,7 +81,7 @@ class Build:
             return status
         self.write()
         if not self.places() and not self.given.run:
-            say("m11-build: nothing is wrong; an output would be named by -o, -m, -l or -s, and -r runs the program")
+            say("m11-build: nothing is wrong; an output would be named by -o, -m, -l, -s or --load-map, and -r runs the program")
         return self.run_tape() if self.given.run else 0
 
     # Places
@@ -87,7 +89,7 @@ class Build:
     def places(self):
         """The path of each output, and the path or the bytes of what is written there."""
         given, tape = self.given, os.path.join(self.room, "TAPE")
-        named = ((given.output, tape), (given.map, os.path.join(self.room, "MAP")), (given.save, None))
+        named = ((given.output, tape), (given.map, os.path.join(self.room, "MAP")), (given.load_map, os.path.join(self.room, "LOAD")), (given.save, None))
         return [(path, made) for path, made in named if path is not None] + self.listings()
 
     def listings(self):
@@ -156,6 +158,8 @@ class Build:
         status = self.link.run()
         for line in self.link.lines():
             say(line)
+        if not status and self.given.load_map is not None:
+            self.link.write_load_map(os.path.join(self.room, "LOAD"))
         return status
 
     def write(self):

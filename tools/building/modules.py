@@ -91,10 +91,10 @@ def run(*words):
     except OSError as error:
         raise Refused(f"{words[0]} can't be run: {error.strerror}", 70) from None
     if done.returncode < 0:
-        raise Refused(f"m11 {words[1]} was ended by signal {-done.returncode}", 70)
+        raise Refused(f"{os.path.basename(words[0])} {words[1]} was ended by signal {-done.returncode}", 70)
     if done.returncode == 2:
         # The folder of temporary files may have a name that isn't UTF-8.
-        raise Refused(f"m11 {words[1]} refuses its words: {os.fsdecode(done.stderr).strip()}", 70)
+        raise Refused(f"{os.path.basename(words[0])} {words[1]} refuses its words: {os.fsdecode(done.stderr).strip()}", 70)
     return done
 
 

@@ -114,11 +114,32 @@ def check_outputs(room):
     status, said = room.run("-r", "LOOP.MAC")
     room.expect("a run without an end", (status, said[0]), (1, "LIMIT AFTER 1000000 STEPS"))
     room.expect("without an output", room.run("my echo.MAC"),
-                (0, ["m11-build: nothing is wrong; an output would be named by -o, -m, -l or -s, and -r runs the program"]))
+                (0, ["m11-build: nothing is wrong; an output would be named by -o, -m, -l, -s or --load-map, and -r runs the program"]))
     shutil.rmtree(os.path.join(room.folder, "lists"))
     room.put("sub/LOOP.MAC", "A::\t.END\n")
     room.run("-l", "lists", "LOOP.MAC", "sub/LOOP.MAC")
     room.expect("listings of two with one name", sorted(os.listdir(os.path.join(room.folder, "lists"))), ["LOOP-2.LST", "LOOP.LST"])
+
+
+def check_load_maps(room):
+    """A load map has all modules, also those of libraries, in the order of the link, and gives the views the names of the listings."""
+    room.put("MAIN.MAC", "S:\tMOV\t#1000,SP\n\tCALL\tTWO\nINNER:\tHALT\n\t.END\tS\n")
+    two = assembled("TWO::\tNOP\nLOCAL:\tRETURN\n\t.END\n")
+    room.put("TWO.OBJ", two)
+    room.put("TWO.LIB", object_library([two]))
+    room.put("MORE.MAC", "MORE:\tNOP\n\t.END\n")
+    status = room.run("-o", "P.TAP", "-l", "lists", "--load-map", "P.LM", "MAIN.MAC", "MORE.MAC", "-L", "TWO.LIB")
+    room.expect("with a library", (status, [name for name in room.files() if name.startswith("P.")]), ((0, []), ["P.LM", "P.TAP"]))
+    for name in ("MAIN", "MORE"):
+        subprocess.run([M11, "asm", "-o", f"{name}.OBJ", f"{name}.MAC"], cwd=room.folder, check=True, capture_output=True)
+    dumped = subprocess.run([os.path.join(TOP, "m11-dump"), "-m", "MAIN.OBJ", "MORE.OBJ", "TWO.OBJ"], cwd=room.folder, check=True, capture_output=True)
+    room.expect("the load map", get(room.folder, "P.LM"), dumped.stdout)
+    traced = subprocess.run([os.path.join(TOP, "m11-trace"), "-y", "P.LM", "-y", "lists/MAIN.LST", "-y", "lists/MORE.LST", "P.TAP"], cwd=room.folder,
+                            check=True, capture_output=True)
+    room.expect("names", [line.split(b"\t")[1].split()[-1] for line in traced.stderr.split(b"\n")[1:5]],
+                [b"S+4", b"TWO", b"TWO+2", b"INNER"])
+    room.put("BAD.MAC", "S:\tCALL\tNONE\n\t.END\tS\n")
+    room.expect("after a message", (room.run("--load-map", "P.LM", "BAD.MAC")[0], "P.LM" in room.files()), (1, False))
 
 
 def check_modules(room):
@@ -150,7 +171,7 @@ def check_modules(room):
     room.put("BOM.MAC", b"\xef\xbb\xbf; \xe2\x80\x9cq\xe2\x80\x9d\n\t.ENABL\tAMA\n\t.END\n")
     room.expect("what is adapted", room.run("-v", "BOM.MAC")[1][:4],
                 ["BOM.MAC:1: a byte order mark is left out", "BOM.MAC: adapted 1 line: .ENABL 1", "BOM.MAC:2: adapted to ;.ENABL\tAMA: .ENABL\tAMA",
-                 "m11-build: nothing is wrong; an output would be named by -o, -m, -l or -s, and -r runs the program"])
+                 "m11-build: nothing is wrong; an output would be named by -o, -m, -l, -s or --load-map, and -r runs the program"])
 
 
 def check_libraries(room):
@@ -390,5 +411,5 @@ def built_in_process(room, name, content):
 
 
 CHECKS = [(check.__name__.replace("check_", "building-").replace("_", "-"), in_a_room(check), ())
-          for check in (check_outputs, check_modules, check_libraries, check_messages, check_link_messages, check_nothing_left, check_places, check_signals,
-                        check_signals_at_folders, check_damaged)]
+          for check in (check_outputs, check_load_maps, check_modules, check_libraries, check_messages, check_link_messages, check_nothing_left,
+                        check_places, check_signals, check_signals_at_folders, check_damaged)]
