@@ -533,8 +533,8 @@ CASES = (
                b"L01012 000006\nUNDEFINED\n",
       "A.TAP": block(word(0o1000) + word(0o105737) + word(0o177564) + word(0o100002) + word(0o4767) + word(0o177772) + word(0o773) + word(0o137) + word(0o1003))
                + block(word(0o1000))}, 0,
-     "TPS=177564\nNEXT=1003\nL01006=7\nL01012=6\n\t.ASECT\n\t.=1000\nMAIN:\nALSO:\n\tTSTB   @#TPS\nL01004:\n\tBPL    1012\n\tJSR    PC,L01004\n"
-     "\tBR     1002\n\tJMP    @#NEXT\n\t.END\tMAIN\n", ""),
+     "\t.ASECT\nTPS=177564\nNEXT=1003\nL01006=7\nL01012=6\n; R0=1000\n; MAIN=1002\n; 1$=1002\n\t.=1000\nMAIN:\nALSO:\n\tTSTB   @#TPS\nL01004:\n"
+     "\tBPL    1012\n\tJSR    PC,L01004\n\tBR     1002\n\tJMP    @#NEXT\n\t.END\tMAIN\n", ""),
     ("a source of a tape without bytes", "-s -t A.TAP", {"A.TAP": block(word(1))}, 0, "\t.ASECT\n\t.END\n", ""),
     ("a source of an object", "-s A.OBJ", {"A.OBJ": FRONT + REST}, 4, "", "?M11 DUMP 21 NotTape OF A.OBJ\n"),
     ("a source of a tape and of an object", "-s A.TAP A.OBJ", {"A.TAP": block(word(0o1000)), "A.OBJ": FRONT + REST}, 4, "\t.ASECT\n\t.END\t1000\n",
