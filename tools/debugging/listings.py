@@ -6,6 +6,9 @@ from .runs import Refused
 LINE = re.compile(r"(.{4})( *\d+) ([0-7]{6})((?: [0-7 ]{6}.){0,3})")
 LABEL = re.compile(r"\s*([A-Z$.][A-Z0-9$.]*)::?", re.I)
 SECTION = re.compile(r"(?:[A-Z0-9$.]+::?\s*)*\.(PSECT|CSECT|ASECT)\b[ \t]*([A-Z0-9$.]*)", re.I)
+# A line with a statement other than an assignment, and a line that moves the location counter without an expansion.
+EXPANDED = re.compile(r"\s*(?:[A-Z0-9$.]+::?\s*)*[A-Z$.][A-Z0-9$.]*(?!\s*==?)(?![A-Z0-9$.])", re.I)
+RESERVED = re.compile(r"\s*(?:[A-Z0-9$.]+::?\s*)*\.(?:BLKB|BLKW|EVEN|ODD|END|[PC]SECT|ASECT)\b", re.I)
 TITLE = re.compile(r"\s*\.TITLE\s+([A-Z0-9$.]+)", re.I)
 # The column, from 0 on, of the text of a line.
 TEXT = 42
@@ -85,7 +88,7 @@ class Listing:
     def add_lines(self, numbers):
         """The line of each address: a section's directive or a label says in which section a line is."""
         by_name = {name: number for number, (name, _) in self.sections.items()}
-        section = by_name.get("", 1)
+        section, last, expansions = by_name.get("", 1), None, []
         for line in self.lines[:self.table]:
             text = line[TEXT:]
             found, label = SECTION.match(text.lstrip()), LABEL.match(text)
@@ -94,9 +97,23 @@ class Listing:
             elif label and numbers.get(label[1].upper()[:6]) is not None:
                 section = numbers[label[1].upper()[:6]]
             shown = LINE.match(line)
-            if shown and shown[4].strip() and self.parts.get(section) and not is_assignment(text):
-                address = (self.parts[section].address + int(shown[3], 8)) & 0o177777
-                self.at.setdefault(address, Source(self.path, int(shown[2]), text.rstrip()))
+            if not shown or not self.parts.get(section):
+                last = None
+                continue
+            address = (self.parts[section].address + int(shown[3], 8)) & 0o177777
+            if last and last[0] == section:
+                expansions.append((last[1], address, last[2]))
+            source = Source(self.path, int(shown[2]), text.rstrip())
+            if shown[4].strip() and not is_assignment(text):
+                self.at.setdefault(address, source)
+            last = (section, address, source) if not shown[4].strip() and EXPANDED.match(text) and not RESERVED.match(text) else None
+        self.add_expansions(expansions)
+
+    def add_expansions(self, expansions):
+        """The words from one address up to another, which a macro or a repeat made, are in the line that calls it, unless they have lines of their own."""
+        for first, after, source in expansions:
+            for address in range(first, after, 2):
+                self.at.setdefault(address, Source(self.path, source.number, "in " + source.text.strip()))
 
 
 def is_assignment(text):

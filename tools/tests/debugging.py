@@ -30,6 +30,25 @@ START:	MOV	#1000,SP
 FAR:	RETURN
 	.END	START
 """
+# Words from a macro, from a repeat, and from a repeat that is listed, and room.
+MADE = """
+	.MACRO	CLEAR	X
+	CLR	X
+	TST	X
+	.ENDM
+S:	CLEAR	R0
+1$:	.REPT	2
+	INC	R1
+	.ENDR
+	.LIST	ME
+	.REPT	1
+	INC	R2
+	.ENDR
+	BR	2$
+	.BLKW	2
+2$:	HALT
+	.END	S
+"""[1:]
 
 
 def call(*words, folder, given=b"", status=0):
@@ -276,7 +295,7 @@ def check_memory(found, folder):
     for command, got, one in zip(commands, said, wanted):
         expect(found, command, got, one)
     expect(found, "five words", len(said[13]), 3)
-    expect_in(found, "no line", said[14][0], "no listing has a line for 001006")
+    expect_in(found, "a line of a macro", said[14][0], "MAIN.LST:24: in PRINT")
     expect(found, "values", [answer[0] for answer in said[15:]], ["010002 = 4098.", "001002 START+2 = 514.", "000000 = 0."])
 
 
@@ -304,5 +323,15 @@ def check_names(found, folder):
               "PARTS.LST is of no module of the load map")
 
 
+def check_expansions(found, folder):
+    """Words that macros and repeats make are in the lines that call them, and room isn't; a repeat that is listed has lines of its own."""
+    build(folder, "MADE", MADE)
+    addresses = ("1000", "1002", "1004", "1006", "1010", "1012", "1014", "1020")
+    said = answers(debug(folder, [f"examine -l {address}" for address in addresses], "-y", "MADE.LST", "MADE.TAP"))
+    expect(found, "lines", [re.sub(r".*?(?=MADE.LST:|no listing)", "", answer[0]) for answer in said],
+           ["MADE.LST:5: in S:   CLEAR   R0"] * 2 + ["MADE.LST:6: in 1$:  .REPT   2"] * 2 + ["MADE.LST:12: INC     R2", "MADE.LST:13: BR      2$",
+            "no listing has a line for 001014: examine shows words, examine -m instructions", "MADE.LST:15: 2$:     HALT"])
+
+
 CHECKS = [(f"debug-{check.__name__.replace('check_', '')}", in_a_folder(check), ()) for check in (
-    check_mistakes, check_page, check_states, check_search, check_breaks, check_moves, check_memory, check_names)]
+    check_mistakes, check_page, check_states, check_search, check_breaks, check_moves, check_memory, check_names, check_expansions)]
