@@ -1,3 +1,4 @@
+pub mod NoState
 pub mod OneMachine
 pub mod SlicesMade
 pub mod StateBytes

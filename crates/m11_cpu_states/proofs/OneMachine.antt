@@ -11,7 +11,7 @@ use Rattle.m11_cpu_machine.specs.declared.stop.LastingStop.{LastingStop}
 use Rattle.m11_cpu_machine.specs.declared.stop.LastingStop.TheVariants.{StackFault, InputFault, OutputFault}
 use Rattle.m11_cpu_states.specs.States.{lasting_number, receiver_bytes, state_of, status_bytes}
 
-words_one : (words words' rest rest' : List ℕ) → length words ≡ length words' → bytes_of words ++ rest ≡ bytes_of words' ++ rest'
+pub words_one : (words words' rest rest' : List ℕ) → length words ≡ length words' → bytes_of words ++ rest ≡ bytes_of words' ++ rest'
     → (words ≡ words') × (rest ≡ rest')
 words_one [] [] rest rest' l e = (refl, e)
 words_one [] (w ∷ ws) rest rest' l e = absurd (omega arith)

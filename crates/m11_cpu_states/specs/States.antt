@@ -1,7 +1,7 @@
 -- The state of a machine as bytes. (This project's own.)
-use Rattle.std.specs.Prelude.{ℕ, ◌++◌, List, [], ◌∷◌, Option, Some, None, replicate}
+use Rattle.std.specs.Prelude.{◌≡◌, ℕ, ◌+◌, ◌*◌, ◌≤◌, ◌++◌, List, [], ◌∷◌, Option, Some, None, length, replicate}
 use Rattle.m11_base.specs.Devices.{Bytes}
-use Rattle.m11_cpu_machine.specs.Memory.{bytes_of}
+use Rattle.m11_cpu_machine.specs.Memory.{bytes_of, least_words, most_words}
 use Rattle.m11_cpu_machine.specs.Status.{bit}
 use Rattle.m11_cpu_machine.specs.Stop.{stop_number, stop_of}
 use Rattle.m11_cpu_machine.specs.declared.console.Receiver.{Receiver}
@@ -33,3 +33,17 @@ state_of m = bytes_of m.registers ++ (status_bytes m.status ++ (receiver_bytes m
 -- the state of a machine with these registers and this memory, all else of which is 0 or clear
 abbrev pub state_at_start : List ℕ → Bytes → Bytes
 state_at_start registers memory = bytes_of registers ++ (replicate 12 0 ++ memory)
+
+-- ---- which bytes are a state
+
+-- a state of so many bytes has so many words of memory, as many as a machine may have
+abbrev pub HasWords : ℕ → ℕ → Type 0
+HasWords bytes words = (bytes ≡ 28 + 2 * words) × (least_words ≤ words) × (words ≤ most_words)
+
+-- a machine has eight registers, and as many words of memory as a machine may have
+abbrev pub IsWhole : Machine → Type 0
+IsWhole m = (words : ℕ) × (length m.registers ≡ 8) × (length m.memory ≡ 2 * words) × (least_words ≤ words) × (words ≤ most_words)
+
+-- bytes are the state of a machine
+abbrev pub IsState : Bytes → Type 0
+IsState state = (m : Machine) × IsWhole m × (state_of m ≡ state)

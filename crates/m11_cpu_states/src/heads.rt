@@ -1,17 +1,20 @@
 //! The bytes of a state before those of memory: of the registers, and of the status, the console and the stop.
 
-ghost use Rattle.std.specs.Prelude.{◌≡◌, ◌++◌, ◌∷◌, ◌%◌, ◌/◌, IfOk, IfSome, OnOk};
+ghost use Rattle.std.specs.Prelude.{◌≡◌, ◌<◌, ◌++◌, ◌∷◌, ◌%◌, ◌/◌, Bool, IfErr, IfOk, IfSome, None, OnOk, Option, length};
 ghost use Rattle.m11_cpu_machine.specs.Memory.{bytes_of};
 ghost use Rattle.m11_cpu_machine.specs.Status.{bit};
+ghost use Rattle.m11_cpu_machine.specs.declared.stop.LastingStop.{LastingStop};
 ghost use Rattle.m11_cpu_states.specs.States.{lasting_number};
+ghost use Rattle.m11_cpu_states.specs.declared.refusal.StateFault.TheVariants.{Malformed, NoMemory};
 
 use crate::refusal::StateFault;
 use m11_cpu_machine::LastingStop;
 
-/// Appends the bytes of the registers, the low byte of each first.
+/// Appends the bytes of the registers, the low byte of each first. Error: `NoMemory`.
 #[tactic(auto, using(crate::proofs::StateBytes::one_more_word))]
 pub(crate) fn put_registers(to: &mut Vec<u8>, registers: &[u16; 8]) -> Result<(), StateFault>
-    ensures { OnOk result (to.new.items ≡ to.old.items ++ bytes_of registers.now) }
+    ensures all { OnOk result (to.new.items ≡ to.old.items ++ bytes_of registers.now) }
+    ensures refused { IfErr result (λ fault. fault ≡ NoMemory) }
 {
     for register in registers {
         to.extend_from_slice(&[(*register % 256) as u8, (*register / 256) as u8])?;
@@ -47,7 +50,9 @@ pub(crate) struct Head<'a> {
 
 /// The head of a state; None if the bytes are too few.
 pub(crate) fn head_of(state: &[u8]) -> Option<Head<'_>>
-    ensures { IfSome result (λ head. state.now ≡ bytes_of head.registers ++ (head.priority ∷ head.trace ∷ head.negative ∷ head.zero
+    ensures few { result ≡ None → length state.now < 28 }
+    ensures eight { IfSome result (λ head. length head.registers ≡ 8) }
+    ensures parts { IfSome result (λ head. state.now ≡ bytes_of head.registers ++ (head.priority ∷ head.trace ∷ head.negative ∷ head.zero
         ∷ head.overflow ∷ head.carry ∷ head.byte ∷ head.is_done ∷ head.is_enabled ∷ head.has_ended ∷ head.is_printing_enabled
         ∷ head.stop ∷ head.memory.now)) }
 {
@@ -75,7 +80,9 @@ pub(crate) fn head_of(state: &[u8]) -> Option<Head<'_>>
 
 // The registers at the front of a state, and what follows them; None if the bytes are too few.
 fn registers_of(state: &[u8]) -> Option<([u16; 8], &[u8])>
-    ensures { IfSome result (λ parts. state.now ≡ bytes_of parts.0 ++ parts.1.now) }
+    ensures few { result ≡ None → length state.now < 16 }
+    ensures eight { IfSome result (λ parts. length parts.0 ≡ 8) }
+    ensures parts { IfSome result (λ parts. state.now ≡ bytes_of parts.0 ++ parts.1.now) }
 {
     match state {
         [a, b, c, d, e, f, g, h, i, j, k, l, m, n, o, p, rest @ ..] => {
@@ -112,7 +119,8 @@ pub(crate) fn byte_of(flag: bool) -> u8
 
 /// The flag of a byte: 0 or 1. Error: `Malformed`, for any other byte.
 pub(crate) fn flag(byte: u8) -> Result<bool, StateFault>
-    ensures { IfOk result (λ flag. byte ≡ bit flag) }
+    ensures flag { IfOk result (λ flag. byte ≡ bit flag) }
+    ensures malformed { IfErr result (λ fault. (fault ≡ Malformed) × ((flag : Bool) → byte ≡ bit flag → ⊥)) }
 {
     match byte {
         0 => Ok(false),
@@ -133,7 +141,8 @@ pub(crate) fn number_of(stopped: Option<LastingStop>) -> u8
 
 /// The lasting stop of a number, if it isn't 0. Error: `Malformed`, if no lasting stop has it.
 pub(crate) fn stop_of(number: u8) -> Result<Option<LastingStop>, StateFault>
-    ensures { IfOk result (λ stopped. number ≡ lasting_number stopped) }
+    ensures stop { IfOk result (λ stopped. number ≡ lasting_number stopped) }
+    ensures malformed { IfErr result (λ fault. (fault ≡ Malformed) × ((stopped : Option LastingStop) → number ≡ lasting_number stopped → ⊥)) }
 {
     match number {
         0 => Ok(None),

@@ -1,13 +1,15 @@
 //! The bytes of memory in a state.
 
-ghost use Rattle.std.specs.Prelude.{◌≡◌, ◌++◌, OnOk, length};
+ghost use Rattle.std.specs.Prelude.{◌≡◌, ◌++◌, IfErr, OnOk, length};
+ghost use Rattle.m11_cpu_states.specs.declared.refusal.StateFault.TheVariants.{NoMemory};
 
 use crate::refusal::StateFault;
 use m11_cpu_machine::Memory;
 
-/// Appends the bytes of memory.
+/// Appends the bytes of memory. Error: `NoMemory`.
 pub(crate) fn put_memory(to: &mut Vec<u8>, memory: &Memory) -> Result<(), StateFault>
-    ensures { OnOk result (to.new.items ≡ to.old.items ++ memory.now) }
+    ensures all { OnOk result (to.new.items ≡ to.old.items ++ memory.now) }
+    ensures refused { IfErr result (λ fault. fault ≡ NoMemory) }
 {
     'bytes: for address in 0..u16::MAX {
         if !memory.holds(address) {
@@ -16,7 +18,7 @@ pub(crate) fn put_memory(to: &mut Vec<u8>, memory: &Memory) -> Result<(), StateF
         to.push(memory.byte(address))?;
     }
     // No memory has so many bytes.
-    Err(StateFault::Malformed)
+    Err(StateFault::NoMemory)
 }
 
 /// Stores these bytes in memory, from address 0 on: as many as the memory has.

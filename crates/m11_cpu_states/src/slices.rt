@@ -1,9 +1,11 @@
 //! Slices of a run: some steps of the machine of a state, with what was typed so far.
 
-ghost use Rattle.std.specs.Prelude.{◌≡◌, ◌≤◌, IfOk, false};
+ghost use Rattle.std.specs.Prelude.{◌≡◌, ◌≤◌, IfErr, IfOk, false};
 ghost use Rattle.m11_cpu.specs.Runs.{run_counted};
 ghost use Rattle.m11_cpu_machine.specs.Dialogue.{Does, both};
 ghost use Rattle.m11_cpu_states.specs.Slices.{Makes, Sliced};
+ghost use Rattle.m11_cpu_states.specs.States.{IsState};
+ghost use Rattle.m11_cpu_states.specs.declared.refusal.StateFault.TheVariants.{Malformed};
 
 use crate::refusal::StateFault;
 use crate::states::{machine_of, state_of};
@@ -42,7 +44,8 @@ pub fn make_slice(
     is_over: bool,
     limit: u32,
 ) -> Result<Slice, StateFault>
-    ensures { IfOk result (λ slice. Sliced is_over limit state.now typed.now slice) }
+    ensures slice { IfOk result (λ slice. Sliced is_over limit state.now typed.now slice) }
+    ensures malformed { IfErr result (λ fault. (fault ≡ Malformed) → IsState state.now → ⊥) }
 {
     let slice = steps_of(alloc, state, typed, is_over, limit)?;
     if is_over {
@@ -71,6 +74,7 @@ fn steps_of(
     ensures steps { IfOk result (λ slice. Makes is_over limit state.now typed.now slice) }
     ensures waits { IfOk result (λ slice. slice.waits ≡ false) }
     ensures most { IfOk result (λ slice. slice.steps ≤ limit) }
+    ensures malformed { IfErr result (λ fault. (fault ≡ Malformed) → IsState state.now → ⊥) }
 {
     let mut machine = machine_of(alloc, state)?;
     let mut feed = TypedFeed::new(typed, is_over);

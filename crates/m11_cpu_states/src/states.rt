@@ -4,11 +4,13 @@
 //! whether it is unread, whether the receiver's interrupts are enabled, and whether the input has ended. At 26: whether the transmitter's
 //! interrupts are enabled. At 27: the number of the lasting stop, or 0. What is true is 1, and what isn't is 0.
 
-ghost use Rattle.std.specs.Prelude.{◌≡◌, ◌+◌, ◌*◌, ◌≤◌, [], ◌∷◌, ◌++◌, IfOk, IfSome};
+ghost use Rattle.std.specs.Prelude.{◌≡◌, ℕ, [], ◌∷◌, ◌++◌, IfErr, IfOk, MatchOption};
 ghost use Rattle.m11_cpu_machine.specs.Machine.{new_machine};
-ghost use Rattle.m11_cpu_machine.specs.Memory.{least_words, most_words};
 ghost use Rattle.m11_cpu_machine.specs.Status.{bit};
-ghost use Rattle.m11_cpu_states.specs.States.{lasting_number, receiver_bytes, state_at_start, state_of, status_bytes};
+ghost use Rattle.m11_cpu_machine.specs.declared.console.Receiver.{Receiver};
+ghost use Rattle.m11_cpu_machine.specs.declared.status.ProcessorStatus.{ProcessorStatus};
+ghost use Rattle.m11_cpu_states.specs.States.{HasWords, IsState, lasting_number, receiver_bytes, state_at_start, state_of, status_bytes};
+ghost use Rattle.m11_cpu_states.specs.declared.refusal.StateFault.TheVariants.{Malformed, NoMemory};
 
 use crate::heads::{Head, byte_of, flag, head_of, number_of, put_registers, stop_of};
 use crate::memories::{fill_memory, put_memory};
@@ -22,7 +24,7 @@ const HEAD: usize = 28;
 
 /// The number of words of memory in a state of so many bytes; None if no state has so many.
 pub fn words_of(length: usize) -> Option<u16>
-    ensures { IfSome result (λ words. (length ≡ 28 + 2 * words) × (least_words ≤ words) × (words ≤ most_words)) }
+    ensures { MatchOption result ((words : ℕ) → HasWords length words → ⊥) (HasWords length) }
 {
     if length < HEAD || length % 2 == 1 {
         return None;
@@ -38,7 +40,8 @@ pub fn words_of(length: usize) -> Option<u16>
 ///
 /// Error: `NoMemory`.
 pub fn state_of(alloc: Global, machine: &Machine) -> Result<Vec<u8>, StateFault>
-    ensures { IfOk result (λ state. state.items ≡ state_of machine.now) }
+    ensures state { IfOk result (λ state. state.items ≡ state_of machine.now) }
+    ensures refused { IfErr result (λ fault. fault ≡ NoMemory) }
 {
     let mut state = Vec::new(alloc);
     put_registers(&mut state, &machine.registers)?;
@@ -76,7 +79,8 @@ pub fn state_at_start(
     registers: &[u16; 8],
     memory: &Memory,
 ) -> Result<Vec<u8>, StateFault>
-    ensures { IfOk result (λ state. state.items ≡ state_at_start registers.now memory.now) }
+    ensures state { IfOk result (λ state. state.items ≡ state_at_start registers.now memory.now) }
+    ensures refused { IfErr result (λ fault. fault ≡ NoMemory) }
 {
     let mut state = Vec::new(alloc);
     put_registers(&mut state, registers)?;
@@ -89,7 +93,8 @@ pub fn state_at_start(
 ///
 /// Errors: `Malformed`, if the bytes are no state; `NoMemory`.
 pub fn machine_of(alloc: Global, state: &[u8]) -> Result<Machine, StateFault>
-    ensures { IfOk result (λ machine. state_of machine ≡ state.now) }
+    ensures machine { IfOk result (λ machine. state_of machine ≡ state.now) }
+    ensures malformed { IfErr result (λ fault. (fault ≡ Malformed) → IsState state.now → ⊥) }
 {
     let Some(words) = words_of(state.len()) else {
         return Err(StateFault::Malformed);
@@ -113,9 +118,11 @@ pub fn machine_of(alloc: Global, state: &[u8]) -> Result<Machine, StateFault>
     Ok(machine)
 }
 
-// The status that a head says.
+// The status that a head says. Error: `Malformed`, if it says none.
 fn status_of(head: &Head<'_>) -> Result<ProcessorStatus, StateFault>
-    ensures { IfOk result (λ status. status_bytes status ≡ head.now.priority ∷ head.now.trace ∷ head.now.negative ∷ head.now.zero
+    ensures malformed { IfErr result (λ fault. (fault ≡ Malformed) × ((status : ProcessorStatus) → status_bytes status ≡ head.now.priority
+        ∷ head.now.trace ∷ head.now.negative ∷ head.now.zero ∷ head.now.overflow ∷ head.now.carry ∷ [] → ⊥)) }
+    ensures status { IfOk result (λ status. status_bytes status ≡ head.now.priority ∷ head.now.trace ∷ head.now.negative ∷ head.now.zero
         ∷ head.now.overflow ∷ head.now.carry ∷ []) }
 {
     Ok(ProcessorStatus {
@@ -130,9 +137,11 @@ fn status_of(head: &Head<'_>) -> Result<ProcessorStatus, StateFault>
     })
 }
 
-// The receiver that a head says.
+// The receiver that a head says. Error: `Malformed`, if it says none.
 fn receiver_of(head: &Head<'_>) -> Result<Receiver, StateFault>
-    ensures { IfOk result (λ receiver. receiver_bytes receiver ≡ head.now.byte ∷ head.now.is_done ∷ head.now.is_enabled
+    ensures malformed { IfErr result (λ fault. (fault ≡ Malformed) × ((receiver : Receiver) → receiver_bytes receiver ≡ head.now.byte
+        ∷ head.now.is_done ∷ head.now.is_enabled ∷ head.now.has_ended ∷ [] → ⊥)) }
+    ensures receiver { IfOk result (λ receiver. receiver_bytes receiver ≡ head.now.byte ∷ head.now.is_done ∷ head.now.is_enabled
         ∷ head.now.has_ended ∷ []) }
 {
     Ok(Receiver {

@@ -11,8 +11,8 @@ returns-clause-steps c =
       machine' = c.run_counted-ran.new.machine;
       failures = _;
       losses = _;
-      given = c.in_ok-machine.ensures;
+      given = c.in_ok-machine.ensures.machine;
       runs = ran_so _ _ _ _ _ _ _ _ _ _ _ _ _ _ _ _ _ c.new-feed.ensures.text c.new-feed.ensures.unfailed c.new-sink.ensures.text
           c.new-sink.ensures.unfailed unread c.into_bytes.ensures c.run_counted-ran.ensures.runs;
-      left = c.in_ok-state_of.ensures;
+      left = c.in_ok-state_of.ensures.state;
     }
