@@ -1,5 +1,5 @@
 -- The text of a line of source. Addresses in operands, and targets of branches, are written by the names that symbols give them, and words of
--- operands by what they refer to in an object. (MACRO-11 Language Reference Manual, "Assembler statements" and "Addressing modes". That
+-- operands and of data by what they refer to in an object. (MACRO-11 Language Reference Manual, "Assembler statements" and "Addressing modes". That
 -- operands begin in the eighth column is this project's own choice.)
 use Rattle.std.specs.Prelude.{ℕ, true, false, List, [], ◌∷◌, ◌++◌, length, Option, codes}
 use Rattle.m11_base.specs.Devices.{Bytes}
@@ -74,5 +74,5 @@ operands_text symbols references (Number number) = number_text number
 abbrev pub statement_text : List Symbol → References → Statement → Bytes
 statement_text symbols references (Named name Nothing) = bare_name name
 statement_text symbols references (Named name operands) = name_text name ++ operands_text symbols references operands
-statement_text symbols references (DataWord word) = prefixed (codes ".WORD  ") word
+statement_text symbols references (DataWord word) = codes ".WORD  " ++ referred_or false references.own (number_text word)
 statement_text symbols references (DataByte byte) = prefixed (codes ".BYTE  ") byte

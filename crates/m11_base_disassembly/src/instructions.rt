@@ -13,7 +13,7 @@ ghost use Rattle.m11_base_disassembly.specs.Texts.{argument_text, register_text,
 use crate::arguments::{put_argument, put_prefixed, register_text, words_of};
 use crate::names::{put_bare_name, put_name, row_named};
 use crate::numbers::put_number;
-use crate::references::{References, reference_after};
+use crate::references::{References, put_number_or, reference_after};
 use crate::source::{Source, put};
 use crate::symbols::{Symbol, put_address};
 use m11_base::{Insn, Operand, Register, Row, decode};
@@ -124,12 +124,14 @@ fn put_second(
     );
 }
 
-// The line of source for a word of data.
-fn word_source(word: u16) -> Source
-    ensures { result.items ≡ statement_text [] no_references (DataWord word) }
+/// The line of source for a word of data: what the word refers to, if it has a reference of its own that stands for it; otherwise the number in
+/// octal.
+pub fn word_source(references: &References, word: u16) -> Source
+    ensures { result.items ≡ statement_text [] references.now (DataWord word) }
 {
     let mut line = Source::new();
-    put_prefixed(&mut line, b".WORD  ", word);
+    put(&mut line, b".WORD  ");
+    put_number_or(&mut line, &references.own, word);
     line
 }
 
@@ -360,7 +362,7 @@ pub fn statement_size(word: u16, more: &[u16]) -> usize
 /// location of an absolute section, the line yields exactly the words that it was made from, if the symbols have these values there. An
 /// operand that is an address, and the target of a branch, is written as the nearest symbol and the distance from there, if that symbol's
 /// section is known or its value is the address; otherwise in octal, as are numbers after `#`, and indexes. But a word of an operand with a
-/// reference is written as what it refers to, if both are relative or neither is.
+/// reference is written as what it refers to, if both are relative or neither is, and so is a word of data, which isn't relative.
 pub fn disassembled(
     symbols: &[Symbol],
     references: &References,
@@ -382,7 +384,7 @@ pub fn disassembled(
             }
         }
         None => Disassembly {
-            source: word_source(word),
+            source: word_source(references, word),
             words: 1,
         },
     }

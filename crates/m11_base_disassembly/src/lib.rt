@@ -11,14 +11,14 @@ mod numbers;
 mod references;
 mod source;
 
-pub use references::{Reference, References, no_references};
+pub use references::{Reference, References, is_data, no_references};
 pub use source::Source;
 
 // The lines of instructions and of data, and the addresses in them.
 mod instructions;
 mod operand_addresses;
 
-pub use instructions::{Disassembly, byte_source, disassembled, statement_size};
+pub use instructions::{Disassembly, byte_source, disassembled, statement_size, word_source};
 pub use operand_addresses::{Addresses, addresses};
 
 // The names of addresses: the lines and columns of maps and listings, and their symbols.

@@ -1,4 +1,4 @@
-//! What the words of operands refer to in an object.
+//! What words refer to in an object.
 
 ghost use Rattle.std.specs.Prelude.{◌≡◌, ◌≤◌, ◌+◌, ◌++◌, false};
 ghost use Rattle.arrayvec.specs.ArrayVec.{array_vec_len};
@@ -23,10 +23,12 @@ pub struct Reference {
     pub is_displaced: bool,
 }
 
-/// What the words after an instruction's code refer to.
+/// What the words of a statement refer to.
 #[derive(Clone, Copy)]
 pub struct References {
-    /// The reference of the first of these words, if it has one.
+    /// The reference of the word where the statement begins, if it has one; the code of an instruction has none.
+    pub own: Option<Reference>,
+    /// The reference of the first word after an instruction's code, likewise.
     pub first: Option<Reference>,
     /// The reference of the second one, likewise.
     pub second: Option<Reference>,
@@ -37,6 +39,7 @@ pub fn no_references() -> References
     ensures { result ≡ spec.no_references }
 {
     References {
+        own: None,
         first: None,
         second: None,
     }
@@ -63,8 +66,8 @@ fn has_form(name: Option<Name>) -> bool
     }
 }
 
-// Whether a reference stands for the word of an operand: its name, if it has one, can be written, and the word is a distance just if the operand
-// is relative.
+// Whether a reference stands for the word of an operand, or for a word of data, which isn't relative: its name, if it has one, can be written, and
+// the word is a distance just if the operand is relative.
 fn stands_in(is_relative: bool, reference: &Reference) -> bool
     ensures { result ≡ spec.stands_in is_relative reference.now }
 {
@@ -74,6 +77,16 @@ fn stands_in(is_relative: bool, reference: &Reference) -> bool
         } else {
             !reference.is_displaced
         }
+}
+
+/// Whether a word with this reference is data where a statement begins: the reference stands for it. An instruction's code has no reference.
+pub fn is_data(reference: &Option<Reference>) -> bool
+    ensures { result ≡ spec.is_data reference.now }
+{
+    match reference {
+        Some(reference) => stands_in(false, reference),
+        None => false,
+    }
 }
 
 // Adds a name, and the constant that is added to it; or the constant alone.

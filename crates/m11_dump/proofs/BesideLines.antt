@@ -10,15 +10,15 @@ use Rattle.m11_dump.specs.Octets.{location_after}
 first_beside : (references : ℕ → References) (others : ℕ → List ℕ) (address index shown : ℕ) (bytes beyond : List ℕ) → 0 < length bytes
     → lines_beside references others address index shown bytes beyond
     ≡ line_at (references index) (location_after address index) shown (bytes ++ beyond) ++ (others index ++ lines_beside references others address (index + 1)
-    (left_at (location_after address index) shown (bytes ++ beyond)) (drop 1 bytes) beyond)
+    (left_at (references index) (location_after address index) shown (bytes ++ beyond)) (drop 1 bytes) beyond)
 first_beside references others address index shown [] beyond some = absurd (omega (arith, some))
 first_beside references others address index shown (byte ∷ bytes) beyond some = refl
 
-over_beside : (address index shown : ℕ) (bytes beyond : List ℕ) → 0 < length bytes → over_from address index shown bytes beyond
-    ≡ over_from address (index + 1) (left_at (location_after address index) shown (bytes ++ beyond)) (drop 1 bytes) beyond
-over_beside address index shown [] beyond some = absurd (omega (arith, some))
-over_beside address index zero (byte ∷ bytes) beyond some = refl
-over_beside address index (suc shown) (byte ∷ bytes) beyond some = refl
+over_beside : (references : ℕ → References) (address index shown : ℕ) (bytes beyond : List ℕ) → 0 < length bytes → over_from references address index shown bytes beyond
+    ≡ over_from references address (index + 1) (left_at (references index) (location_after address index) shown (bytes ++ beyond)) (drop 1 bytes) beyond
+over_beside references address index shown [] beyond some = absurd (omega (arith, some))
+over_beside references address index zero (byte ∷ bytes) beyond some = refl
+over_beside references address index (suc shown) (byte ∷ bytes) beyond some = refl
 
 drop_one : (index : ℕ) (bytes : List ℕ) → drop 1 (drop index bytes) ≡ drop (index + 1) bytes
 drop_one index bytes = drop-drop 1 index bytes
@@ -48,10 +48,10 @@ module _ (bytes : List ℕ) (address own index : ℕ) (there : own ≤ length by
   dropped = drop_one index mine
 
   module _ (references : ℕ → References) (others : ℕ → List ℕ) (shown left : ℕ)
-      (left_at_is : left ≡ left_at location shown (take (length bytes - index) (drop index bytes))) where
-    left_here : left ≡ left_at (location_after address index) shown (drop index mine ++ beyond)
-    left_here = left_at_is ∙ ap (λ (p : ℕ). left_at p shown (take (length bytes - index) (drop index bytes))) at
-        ∙ ap (λ (l : List ℕ). left_at (location_after address index) shown l) left_is
+      (left_at_is : left ≡ left_at (references index) location shown (take (length bytes - index) (drop index bytes))) where
+    left_here : left ≡ left_at (references index) (location_after address index) shown (drop index mine ++ beyond)
+    left_here = left_at_is ∙ ap (λ (p : ℕ). left_at (references index) p shown (take (length bytes - index) (drop index bytes))) at
+        ∙ ap (λ (l : List ℕ). left_at (references index) (location_after address index) shown l) left_is
 
     pub byte_beside : (all now middle later : List ℕ) → now ++ lines_beside references others address index shown (drop index mine) beyond ≡ all
         → middle ≡ now ++ line_at (references index) location shown (take (length bytes - index) (drop index bytes)) → later ≡ middle ++ others index
@@ -73,10 +73,10 @@ module _ (bytes : List ℕ) (address own index : ℕ) (there : own ≤ length by
         ∙ ap (λ (t : List ℕ). now ++ t) (sym first)
         ∙ leads
 
-    pub over_passed : (all : ℕ) → over_from address index shown (drop index mine) beyond ≡ all
-        → over_from address (index + 1) left (drop (index + 1) mine) beyond ≡ all
+    pub over_passed : (all : ℕ) → over_from references address index shown (drop index mine) beyond ≡ all
+        → over_from references address (index + 1) left (drop (index + 1) mine) beyond ≡ all
     over_passed all leads =
-        ap (λ (l : List ℕ). over_from address (index + 1) left l beyond) (sym dropped)
-        ∙ ap (λ (n : ℕ). over_from address (index + 1) n (drop 1 (drop index mine)) beyond) left_here
-        ∙ sym (over_beside address index shown (drop index mine) beyond some)
+        ap (λ (l : List ℕ). over_from references address (index + 1) left l beyond) (sym dropped)
+        ∙ ap (λ (n : ℕ). over_from references address (index + 1) n (drop 1 (drop index mine)) beyond) left_here
+        ∙ sym (over_beside references address index shown (drop index mine) beyond some)
         ∙ leads

@@ -13,7 +13,7 @@ use Rattle.m11_dump.specs.Octets.{location_after}
 
 lines_at : (references : ℕ → References) (address index shown byte : ℕ) (bytes beyond : List ℕ) → lines_from [] references address index shown (byte ∷ bytes) beyond
     ≡ line_at (references index) (location_after address index) shown (byte ∷ (bytes ++ beyond))
-    ++ lines_from [] references address (index + 1) (left_at (location_after address index) shown (byte ∷ (bytes ++ beyond))) bytes beyond
+    ++ lines_from [] references address (index + 1) (left_at (references index) (location_after address index) shown (byte ∷ (bytes ++ beyond))) bytes beyond
 lines_at references address index zero byte bytes beyond = refl
 lines_at references address index (suc shown) byte bytes beyond = refl
 
@@ -23,7 +23,7 @@ places_beside references others address index shown [] beyond = ([], (refl, refl
 places_beside references others address index shown (byte ∷ bytes) beyond =
     let location = location_after address index in
     let line = line_at (references index) location shown (byte ∷ (bytes ++ beyond)) in
-    let left = left_at location shown (byte ∷ (bytes ++ beyond)) in
+    let left = left_at (references index) location shown (byte ∷ (bytes ++ beyond)) in
     let rest = places_beside references others address (index + 1) left bytes beyond in (
       (line, others index) ∷ rest.0,
       (

@@ -27,13 +27,13 @@ following_two (a ∷ b ∷ []) = omega arith
 following_two (a ∷ b ∷ c ∷ []) = omega arith
 following_two (a ∷ b ∷ c ∷ d ∷ bytes) = omega arith
 
-size_six : (location : ℕ) (bytes : List ℕ) → front_size location bytes ≡ front_size location (take 6 bytes)
+size_six : (location : ℕ) (bytes : List ℕ) → front_size no_references location bytes ≡ front_size no_references location (take 6 bytes)
 size_six location [] = refl
 size_six location (byte ∷ []) = refl
 size_six location (low ∷ high ∷ bytes) =
     ap (λ (more : List ℕ). if location % 2 == 0 then 2 * size_of (word_of low high) more else 1) (following_four bytes)
 
-statement_six : (location : ℕ) (bytes : List ℕ) → front_statement location bytes ≡ front_statement location (take 6 bytes)
+statement_six : (location : ℕ) (bytes : List ℕ) → front_statement no_references location bytes ≡ front_statement no_references location (take 6 bytes)
 statement_six location [] = refl
 statement_six location (byte ∷ []) = refl
 statement_six location (low ∷ high ∷ bytes) =
@@ -46,7 +46,7 @@ most_six_by low high bytes true =
     let few = following_two bytes in omega (arith, within.1, few)
 most_six_by low high bytes false = omega arith
 
-most_six : (location : ℕ) (bytes : List ℕ) → front_size location bytes ≤ 6
+most_six : (location : ℕ) (bytes : List ℕ) → front_size no_references location bytes ≤ 6
 most_six location [] = omega arith
 most_six location (byte ∷ []) = omega arith
 most_six location (low ∷ high ∷ bytes) = most_six_by low high bytes (location % 2 == 0)
@@ -55,13 +55,13 @@ line_six : (symbols : List Symbol) (location : ℕ) (bytes : List ℕ)
     → line_text symbols no_references location bytes ≡ line_text symbols no_references location (take 6 bytes)
 line_six symbols location bytes =
     let name = address_name (codes "\t;") symbols location in
-    let size = front_size location bytes in
+    let size = front_size no_references location bytes in
     let most = most_six location bytes in
     let shown : take size bytes ≡ take size (take 6 bytes) = sym (same_front size 6 [] bytes (omega (arith, most))) in
-    ap (λ (l : List ℕ). line_by location l (statement_text symbols no_references (front_statement location bytes) ++ name)) shown
-    ∙ ap (λ (n : ℕ). line_by location (take n (take 6 bytes)) (statement_text symbols no_references (front_statement location bytes) ++ name))
+    ap (λ (l : List ℕ). line_by location l (statement_text symbols no_references (front_statement no_references location bytes) ++ name)) shown
+    ∙ ap (λ (n : ℕ). line_by location (take n (take 6 bytes)) (statement_text symbols no_references (front_statement no_references location bytes) ++ name))
     (size_six location bytes)
-    ∙ ap (λ (s : Statement). line_by location (take (front_size location (take 6 bytes)) (take 6 bytes)) (statement_text symbols no_references s ++ name))
+    ∙ ap (λ (s : Statement). line_by location (take (front_size no_references location (take 6 bytes)) (take 6 bytes)) (statement_text symbols no_references s ++ name))
     (statement_six location bytes)
 
 -- of the bytes beyond a block, the first five determine its lines
@@ -74,8 +74,8 @@ module _ (x y : List ℕ) (same : take 5 x ≡ take 5 y) where
       ∙ same_front 6 5 (byte ∷ bytes) y most
 
   size_same : (location byte : ℕ) (bytes : List ℕ)
-      → front_size location (byte ∷ (bytes ++ x)) ≡ front_size location (byte ∷ (bytes ++ y))
-  size_same location byte bytes = size_six location (byte ∷ (bytes ++ x)) ∙ ap (front_size location) (six_same byte bytes)
+      → front_size no_references location (byte ∷ (bytes ++ x)) ≡ front_size no_references location (byte ∷ (bytes ++ y))
+  size_same location byte bytes = size_six location (byte ∷ (bytes ++ x)) ∙ ap (front_size no_references location) (six_same byte bytes)
       ∙ sym (size_six location (byte ∷ (bytes ++ y)))
 
   line_same : (symbols : List Symbol) (location byte : ℕ) (bytes : List ℕ)
@@ -89,20 +89,20 @@ module _ (x y : List ℕ) (same : take 5 x ≡ take 5 y) where
   lines_same symbols address index shown [] = refl
   lines_same symbols address index zero (byte ∷ bytes) =
       let location = location_after address index in
-      ap (λ (t : List ℕ). t ++ lines_from symbols unreferred address (index + 1) (front_size location (byte ∷ (bytes ++ x)) - 1) bytes x)
+      ap (λ (t : List ℕ). t ++ lines_from symbols unreferred address (index + 1) (front_size no_references location (byte ∷ (bytes ++ x)) - 1) bytes x)
       (line_same symbols location byte bytes)
       ∙ ap (λ (n : ℕ). line_text symbols no_references location (byte ∷ (bytes ++ y)) ++ lines_from symbols unreferred address (index + 1) (n - 1) bytes x)
       (size_same location byte bytes)
       ∙ ap (λ (t : List ℕ). line_text symbols no_references location (byte ∷ (bytes ++ y)) ++ t)
-      (lines_same symbols address (index + 1) (front_size location (byte ∷ (bytes ++ y)) - 1) bytes)
+      (lines_same symbols address (index + 1) (front_size no_references location (byte ∷ (bytes ++ y)) - 1) bytes)
   lines_same symbols address index (suc shown) (byte ∷ bytes) = lines_same symbols address (index + 1) shown bytes
 
-  over_same : (address index shown : ℕ) (bytes : List ℕ) → over_from address index shown bytes x ≡ over_from address index shown bytes y
+  over_same : (address index shown : ℕ) (bytes : List ℕ) → over_from unreferred address index shown bytes x ≡ over_from unreferred address index shown bytes y
   over_same address index shown [] = refl
   over_same address index zero (byte ∷ bytes) =
       let location = location_after address index in
-      ap (λ (n : ℕ). over_from address (index + 1) (n - 1) bytes x) (size_same location byte bytes)
-      ∙ over_same address (index + 1) (front_size location (byte ∷ (bytes ++ y)) - 1) bytes
+      ap (λ (n : ℕ). over_from unreferred address (index + 1) (n - 1) bytes x) (size_same location byte bytes)
+      ∙ over_same address (index + 1) (front_size no_references location (byte ∷ (bytes ++ y)) - 1) bytes
   over_same address index (suc shown) (byte ∷ bytes) = over_same address (index + 1) shown bytes
 
 -- ---- the lines of the next block, with indexes counted from its own first byte
@@ -117,11 +117,11 @@ lines_further symbols address base index zero (byte ∷ bytes) beyond =
     let left : List ℕ = byte ∷ (bytes ++ beyond) in
     let there = location_after (location_after address base) index in
     let e : base + index + 1 ≡ base + (index + 1) = omega arith in
-    ap (λ (l : ℕ). line_text symbols no_references l left ++ lines_from symbols unreferred address (base + index + 1) (front_size l left - 1) bytes beyond)
+    ap (λ (l : ℕ). line_text symbols no_references l left ++ lines_from symbols unreferred address (base + index + 1) (front_size no_references l left - 1) bytes beyond)
     (location_further address base index)
     ∙ ap (λ (t : List ℕ). line_text symbols no_references there left ++ t)
-    (ap (λ (i : ℕ). lines_from symbols unreferred address i (front_size there left - 1) bytes beyond) e
-    ∙ lines_further symbols address base (index + 1) (front_size there left - 1) bytes beyond)
+    (ap (λ (i : ℕ). lines_from symbols unreferred address i (front_size no_references there left - 1) bytes beyond) e
+    ∙ lines_further symbols address base (index + 1) (front_size no_references there left - 1) bytes beyond)
 lines_further symbols address base index (suc shown) (byte ∷ bytes) beyond =
     let e : base + index + 1 ≡ base + (index + 1) = omega arith in
     ap (λ (i : ℕ). lines_from symbols unreferred address i shown bytes beyond) e ∙ lines_further symbols address base (index + 1) shown bytes beyond
@@ -130,18 +130,18 @@ lines_further symbols address base index (suc shown) (byte ∷ bytes) beyond =
 
 split : (symbols : List Symbol) (address index shown : ℕ) (bytes next beyond : List ℕ) → lines_from symbols unreferred address index shown (bytes ++ next) beyond
     ≡ lines_from symbols unreferred address index shown bytes (next ++ beyond)
-    ++ lines_from symbols unreferred address (index + length bytes) (over_from address index shown bytes (next ++ beyond)) next beyond
+    ++ lines_from symbols unreferred address (index + length bytes) (over_from unreferred address index shown bytes (next ++ beyond)) next beyond
 split symbols address index shown [] next beyond =
     let e : index ≡ index + 0 = omega arith in ap (λ (i : ℕ). lines_from symbols unreferred address i shown next beyond) e
 split symbols address index zero (byte ∷ bytes) next beyond =
     let location = location_after address index in
     let left : List ℕ = byte ∷ (bytes ++ (next ++ beyond)) in
-    let size = front_size location left in
+    let size = front_size no_references location left in
     let e : index + 1 + length bytes ≡ index + suc (length bytes) = omega arith in
-    let over = over_from address (index + 1) (size - 1) bytes (next ++ beyond) in
+    let over = over_from unreferred address (index + 1) (size - 1) bytes (next ++ beyond) in
     let front = lines_from symbols unreferred address (index + 1) (size - 1) bytes (next ++ beyond) in
     ap (λ (l : List ℕ). line_text symbols no_references location (byte ∷ l)
-    ++ lines_from symbols unreferred address (index + 1) (front_size location (byte ∷ l) - 1) (bytes ++ next) beyond)
+    ++ lines_from symbols unreferred address (index + 1) (front_size no_references location (byte ∷ l) - 1) (bytes ++ next) beyond)
     (append_assoc bytes next beyond)
     ∙ ap (λ (t : List ℕ). line_text symbols no_references location left ++ t)
     (split symbols address (index + 1) (size - 1) bytes next beyond
@@ -151,19 +151,19 @@ split symbols address index (suc shown) (byte ∷ bytes) next beyond =
     let e : index + 1 + length bytes ≡ index + suc (length bytes) = omega arith in
     split symbols address (index + 1) shown bytes next beyond
     ∙ ap (λ (i : ℕ). lines_from symbols unreferred address (index + 1) shown bytes (next ++ beyond)
-    ++ lines_from symbols unreferred address i (over_from address (index + 1) shown bytes (next ++ beyond)) next beyond) e
+    ++ lines_from symbols unreferred address i (over_from unreferred address (index + 1) shown bytes (next ++ beyond)) next beyond) e
 
 pub shown_as_one : (symbols : List Symbol) (address shown : ℕ) (bytes next beyond : List ℕ) → take 5 (next ++ beyond) ≡ take 5 next
     → lines_from symbols unreferred address 0 shown (bytes ++ next) beyond ≡ lines_from symbols unreferred address 0 shown bytes (take 5 next)
-    ++ lines_from symbols unreferred (location_after address (length bytes)) 0 (over_from address 0 shown bytes (take 5 next)) next beyond
+    ++ lines_from symbols unreferred (location_after address (length bytes)) 0 (over_from unreferred address 0 shown bytes (take 5 next)) next beyond
 shown_as_one symbols address shown bytes next beyond five =
     let same : take 5 (next ++ beyond) ≡ take 5 (take 5 next) =
     five ∙ sym (same_front 5 5 [] next (omega arith)) in
     let e : 0 + length bytes ≡ length bytes + 0 = omega arith in
-    let over = over_from address 0 shown bytes (take 5 next) in
+    let over = over_from unreferred address 0 shown bytes (take 5 next) in
     split symbols address 0 shown bytes next beyond
     ∙ ap (λ (t : List ℕ). t
-    ++ lines_from symbols unreferred address (0 + length bytes) (over_from address 0 shown bytes (next ++ beyond)) next beyond)
+    ++ lines_from symbols unreferred address (0 + length bytes) (over_from unreferred address 0 shown bytes (next ++ beyond)) next beyond)
     (lines_same (next ++ beyond) (take 5 next) same symbols address 0 shown bytes)
     ∙ ap (λ (n : ℕ). lines_from symbols unreferred address 0 shown bytes (take 5 next) ++ lines_from symbols unreferred address (0 + length bytes) n next beyond)
     (over_same (next ++ beyond) (take 5 next) same address 0 shown bytes)

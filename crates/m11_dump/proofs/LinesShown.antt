@@ -18,21 +18,21 @@ module _ (address : ℕ) (beyond : List ℕ) where
       lines_after symbols shown (index + 1) bytes ∙ ap (λ (i : ℕ). lines_from symbols unreferred address i 0 (drop shown bytes) beyond) e
 
   over_after : (shown index : ℕ) (bytes : List ℕ)
-      → over_from address index shown bytes beyond
-      ≡ over_from address (index + shown) (shown - length bytes) (drop shown bytes) beyond
+      → over_from unreferred address index shown bytes beyond
+      ≡ over_from unreferred address (index + shown) (shown - length bytes) (drop shown bytes) beyond
   over_after zero index bytes =
       let e : index ≡ index + 0 = omega arith in
       let none : 0 ≡ 0 - length bytes = omega arith in
-      ap (λ (i : ℕ). over_from address i 0 bytes beyond) e
-      ∙ ap (λ (n : ℕ). over_from address (index + 0) n bytes beyond) none
+      ap (λ (i : ℕ). over_from unreferred address i 0 bytes beyond) e
+      ∙ ap (λ (n : ℕ). over_from unreferred address (index + 0) n bytes beyond) none
   over_after (suc shown) index [] =
       let e : suc shown ≡ suc shown - 0 = omega arith in e
   over_after (suc shown) index (byte ∷ bytes) =
       let e : index + 1 + shown ≡ index + suc shown = omega arith in
       let left : shown - length bytes ≡ suc shown - suc (length bytes) = omega arith in
       over_after shown (index + 1) bytes
-      ∙ ap (λ (i : ℕ). over_from address i (shown - length bytes) (drop shown bytes) beyond) e
-      ∙ ap (λ (n : ℕ). over_from address (index + suc shown) n (drop shown bytes) beyond) left
+      ∙ ap (λ (i : ℕ). over_from unreferred address i (shown - length bytes) (drop shown bytes) beyond) e
+      ∙ ap (λ (n : ℕ). over_from unreferred address (index + suc shown) n (drop shown bytes) beyond) left
 
   pub lines_begin : (symbols : List Symbol) (shown : ℕ) (bytes : List ℕ)
       → lines_from symbols unreferred address 0 shown bytes beyond ≡ lines_from symbols unreferred address shown 0 (drop shown bytes) beyond
@@ -40,45 +40,45 @@ module _ (address : ℕ) (beyond : List ℕ) where
       let e : 0 + shown ≡ shown = omega arith in
       lines_after symbols shown 0 bytes ∙ ap (λ (i : ℕ). lines_from symbols unreferred address i 0 (drop shown bytes) beyond) e
 
-  pub over_begins : (shown own : ℕ) (bytes : List ℕ) → length bytes ≡ own → over_from address 0 shown bytes beyond
-      ≡ over_from address shown (shown - own) (drop shown bytes) beyond
+  pub over_begins : (shown own : ℕ) (bytes : List ℕ) → length bytes ≡ own → over_from unreferred address 0 shown bytes beyond
+      ≡ over_from unreferred address shown (shown - own) (drop shown bytes) beyond
   over_begins shown own bytes long =
       let e : 0 + shown ≡ shown = omega arith in
-      over_after shown 0 bytes ∙ ap (λ (i : ℕ). over_from address i (shown - length bytes) (drop shown bytes) beyond) e
-      ∙ ap (λ (n : ℕ). over_from address shown (shown - n) (drop shown bytes) beyond) long
+      over_after shown 0 bytes ∙ ap (λ (i : ℕ). over_from unreferred address i (shown - length bytes) (drop shown bytes) beyond) e
+      ∙ ap (λ (n : ℕ). over_from unreferred address shown (shown - n) (drop shown bytes) beyond) long
 
   -- the lines of some bytes are the first line, and the lines of the bytes that it doesn't show
   first_line : (symbols : List Symbol) (index size : ℕ) (bytes : List ℕ) → 0 < length bytes → 0 < size
-      → size ≡ front_size (location_after address index) (bytes ++ beyond)
+      → size ≡ front_size no_references (location_after address index) (bytes ++ beyond)
       → lines_from symbols unreferred address index 0 bytes beyond
       ≡ line_text symbols no_references (location_after address index) (bytes ++ beyond) ++ lines_from symbols unreferred address (index + size) 0 (drop size bytes) beyond
   first_line symbols index size [] some least is = absurd (omega (arith, some))
   first_line symbols index zero (byte ∷ bytes) some least is = absurd (omega (arith, least))
   first_line symbols index (suc rest) (byte ∷ bytes) some least is =
-      let left : front_size (location_after address index) (byte ∷ (bytes ++ beyond)) - 1 ≡ rest = omega (arith, is) in
+      let left : front_size no_references (location_after address index) (byte ∷ (bytes ++ beyond)) - 1 ≡ rest = omega (arith, is) in
       let e : index + 1 + rest ≡ index + suc rest = omega arith in
       ap (λ (t : List ℕ). line_text symbols no_references (location_after address index) (byte ∷ (bytes ++ beyond)) ++ t)
       (ap (λ (n : ℕ). lines_from symbols unreferred address (index + 1) n bytes beyond) left ∙ lines_after symbols rest (index + 1) bytes
       ∙ ap (λ (i : ℕ). lines_from symbols unreferred address i 0 (drop rest bytes) beyond) e)
 
   first_over : (index size : ℕ) (bytes : List ℕ) → 0 < length bytes → 0 < size
-      → size ≡ front_size (location_after address index) (bytes ++ beyond)
-      → over_from address index 0 bytes beyond
-      ≡ over_from address (index + size) (size - length bytes) (drop size bytes) beyond
+      → size ≡ front_size no_references (location_after address index) (bytes ++ beyond)
+      → over_from unreferred address index 0 bytes beyond
+      ≡ over_from unreferred address (index + size) (size - length bytes) (drop size bytes) beyond
   first_over index size [] some least is = absurd (omega (arith, some))
   first_over index zero (byte ∷ bytes) some least is = absurd (omega (arith, least))
   first_over index (suc rest) (byte ∷ bytes) some least is =
-      let left : front_size (location_after address index) (byte ∷ (bytes ++ beyond)) - 1 ≡ rest = omega (arith, is) in
+      let left : front_size no_references (location_after address index) (byte ∷ (bytes ++ beyond)) - 1 ≡ rest = omega (arith, is) in
       let e : index + 1 + rest ≡ index + suc rest = omega arith in
       let n : rest - length bytes ≡ suc rest - suc (length bytes) = omega arith in
-      ap (λ (n : ℕ). over_from address (index + 1) n bytes beyond) left ∙ over_after rest (index + 1) bytes
-      ∙ ap (λ (i : ℕ). over_from address i (rest - length bytes) (drop rest bytes) beyond) e
-      ∙ ap (λ (n : ℕ). over_from address (index + suc rest) n (drop rest bytes) beyond) n
+      ap (λ (n : ℕ). over_from unreferred address (index + 1) n bytes beyond) left ∙ over_after rest (index + 1) bytes
+      ∙ ap (λ (i : ℕ). over_from unreferred address i (rest - length bytes) (drop rest bytes) beyond) e
+      ∙ ap (λ (n : ℕ). over_from unreferred address (index + suc rest) n (drop rest bytes) beyond) n
 
 -- after the line that begins at an index, the lines of the bytes after it remain
 module _ (bytes : List ℕ) (address own index size : ℕ) (there : own ≤ length bytes) (below : index < own) (least : 0 < size)
     (location : ℕ) (at : location ≡ location_after address index)
-    (sized : size ≡ front_size location (take (length bytes - index) (drop index bytes))) where
+    (sized : size ≡ front_size no_references location (take (length bytes - index) (drop index bytes))) where
   abbrev mine : List ℕ
   mine = take own bytes
 
@@ -97,9 +97,9 @@ module _ (bytes : List ℕ) (address own index size : ℕ) (there : own ≤ leng
       ∙ ap (λ (l : List ℕ). drop index l) (sym (take-append-drop own bytes))
       ∙ drop-append-le index mine beyond (omega (arith, long, below))
 
-  size_is : size ≡ front_size (location_after address index) (drop index mine ++ beyond)
-  size_is = sized ∙ ap (λ (p : ℕ). front_size p (take (length bytes - index) (drop index bytes))) at
-      ∙ ap (λ (l : List ℕ). front_size (location_after address index) l) left_is
+  size_is : size ≡ front_size no_references (location_after address index) (drop index mine ++ beyond)
+  size_is = sized ∙ ap (λ (p : ℕ). front_size no_references p (take (length bytes - index) (drop index bytes))) at
+      ∙ ap (λ (l : List ℕ). front_size no_references (location_after address index) l) left_is
 
   dropped : drop size (drop index mine) ≡ drop (index + size) mine
   dropped = drop-drop size index mine
@@ -119,13 +119,13 @@ module _ (bytes : List ℕ) (address own index size : ℕ) (there : own ≤ leng
       ∙ ap (λ (l : List ℕ). line ++ lines_from symbols unreferred address (index + size) 0 l beyond) dropped))
       ∙ leads
 
-  pub over_shown : (all : ℕ) → over_from address index (index - own) (drop index mine) beyond ≡ all
-      → over_from address (index + size) (index + size - own) (drop (index + size) mine) beyond ≡ all
+  pub over_shown : (all : ℕ) → over_from unreferred address index (index - own) (drop index mine) beyond ≡ all
+      → over_from unreferred address (index + size) (index + size - own) (drop (index + size) mine) beyond ≡ all
   over_shown all leads =
       let none : index - own ≡ 0 = omega (arith, below) in
       let left : size - length (drop index mine) ≡ index + size - own = omega (arith, long, below, length-drop index mine) in
-      ap (λ (n : ℕ). over_from address (index + size) n (drop (index + size) mine) beyond) (sym left)
-      ∙ ap (λ (l : List ℕ). over_from address (index + size) (size - length (drop index mine)) l beyond) (sym dropped)
+      ap (λ (n : ℕ). over_from unreferred address (index + size) n (drop (index + size) mine) beyond) (sym left)
+      ∙ ap (λ (l : List ℕ). over_from unreferred address (index + size) (size - length (drop index mine)) l beyond) (sym dropped)
       ∙ sym (first_over address beyond index size (drop index mine) some least size_is)
-      ∙ ap (λ (n : ℕ). over_from address index n (drop index mine) beyond) (sym none)
+      ∙ ap (λ (n : ℕ). over_from unreferred address index n (drop index mine) beyond) (sym none)
       ∙ leads

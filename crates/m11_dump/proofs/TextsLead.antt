@@ -58,7 +58,7 @@ module _ (view : View) (address own shown : ℕ) (bytes : List ℕ) where
   text_before : (places : Option (List Relocation)) (own' : ℕ) (bytes' : List ℕ) (more : List Content) (address' : ℕ)
       → texts_here places (Text own' bytes' ∷ more)
       ≡ lines_here places (beyond own bytes (places_records places ++ Text own' bytes' ∷ []))
-      ++ texts_from view (point address' (text_over view own shown bytes (beyond own bytes (places_records places ++ Text own' bytes' ∷ []))) false)
+      ++ texts_from view (point address' (text_over view own shown bytes (held_places places) (beyond own bytes (places_records places ++ Text own' bytes' ∷ []))) false)
       (Text own' bytes' ∷ more)
   text_before None own' bytes' more address' = refl
   text_before (Some relocations) own' bytes' more address' = refl

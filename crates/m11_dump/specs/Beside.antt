@@ -1,6 +1,6 @@
 -- The bytes of an object's text as instructions, with its relocations beside them: a relocation that applies to a byte of the text
--- follows the line that shows this byte, and the other relocations follow all lines. Operands show what their words refer to. (What a relocation applies to: RT-11 Volume and
--- File Formats Manual, "Object file format", RLD block. The lines are this project's own.)
+-- follows the line that shows this byte, and the other relocations follow all lines. Operands and words of data show what they refer to. (What
+-- a relocation applies to: RT-11 Volume and File Formats Manual, "Object file format", RLD block. The lines are this project's own.)
 use Rattle.std.specs.Prelude.{ℕ, zero, suc, ◌+◌, ◌-◌, Bool, false, if◌then◌else◌, nat_le, nat_lt, List, [], ◌∷◌, ◌++◌}
 use Rattle.std.specs.List.{flat_map}
 use Rattle.m11_base.specs.Devices.{Bytes}
@@ -37,17 +37,17 @@ other_places address count relocations = flat_map (other_place address count) re
 
 -- ---- lines of instructions with other lines among them
 
--- the line that begins with the first of these bytes, which lies at this location, with the references of the words after it; nothing if the
--- previous line shows that byte
+-- the line that begins with the first of these bytes, which lies at this location, with the references of the statement's words; nothing if
+-- the previous line shows that byte
 abbrev pub line_at : References → ℕ → ℕ → Bytes → Bytes
 line_at references location zero bytes = line_text [] references location bytes
 line_at references location (suc shown) bytes = []
 
 -- how many of the bytes after the first one are shown by the line that shows the first one: the line that begins there, or the previous
 -- line
-abbrev pub left_at : ℕ → ℕ → Bytes → ℕ
-left_at location zero bytes = front_size location bytes - 1
-left_at location (suc shown) bytes = shown
+abbrev pub left_at : References → ℕ → ℕ → Bytes → ℕ
+left_at references location zero bytes = front_size references location bytes - 1
+left_at references location (suc shown) bytes = shown
 
 -- the lines that begin among these bytes, with other lines among them: at each byte the line that begins there, if any, with the references
 -- for the byte's index, is followed by the lines of `others` for that index. The first byte has this index, the previous line shows the first
@@ -56,5 +56,5 @@ abbrev pub lines_beside : (ℕ → References) → (ℕ → Bytes) → ℕ → �
 lines_beside references others address index shown [] beyond = []
 lines_beside references others address index shown (byte ∷ bytes) beyond =
     line_at (references index) (location_after address index) shown ((byte ∷ bytes) ++ beyond) ++ (others index
-    ++ lines_beside references others address (index + 1) (left_at (location_after address index) shown ((byte ∷ bytes) ++ beyond))
-    bytes beyond)
+    ++ lines_beside references others address (index + 1)
+    (left_at (references index) (location_after address index) shown ((byte ∷ bytes) ++ beyond)) bytes beyond)

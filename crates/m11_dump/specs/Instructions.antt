@@ -1,12 +1,14 @@
 -- The bytes of an object's text or of a tape's block as instructions, one to a line: a location, the bytes there, their line of
--- source, with names in operands, and a comment that names the location by the nearest symbol at or below it, if there is one. A byte at an odd location is a byte of data, and so is a single last byte. The last line may continue into bytes beyond the text or block. (PDP-11/40
--- Processor Handbook, "Instruction set"; MACRO-11 Language Reference Manual, "Addressing modes". The lines are this project's own.)
+-- source, with names in operands, and a comment that names the location by the nearest symbol at or below it, if there is one. A byte at an
+-- odd location is a byte of data, and so is a single last byte; a word with a reference of its own, as an address in a table, is a word of data.
+-- The last line may continue into bytes beyond the text or block. (PDP-11/40 Processor Handbook, "Instruction set"; MACRO-11 Language
+-- Reference Manual, "Addressing modes". The lines are this project's own.)
 use Rattle.std.specs.Prelude.{◌≡◌, ◌<◌, ℕ, zero, suc, ◌+◌, ◌-◌, ◌*◌, ◌%◌, ◌==◌, if◌then◌else◌, List, [], ◌∷◌, ◌++◌, length, take, codes}
 use Rattle.m11_base.specs.Devices.{Bytes}
 use Rattle.m11_base.specs.Octal.{octal_text}
 use Rattle.m11_base_disassembly.specs.Instructions.{size_of, statement_of}
-use Rattle.m11_base_disassembly.specs.References.{no_references}
-use Rattle.m11_base_disassembly.specs.Statements.{Statement, DataByte}
+use Rattle.m11_base_disassembly.specs.References.{is_data, no_references}
+use Rattle.m11_base_disassembly.specs.Statements.{Statement, DataByte, DataWord}
 use Rattle.m11_base_disassembly.specs.Symbols.{address_name}
 use Rattle.m11_base_disassembly.specs.Texts.{statement_text}
 use Rattle.m11_base_disassembly.specs.declared.references.References.{References}
@@ -27,19 +29,29 @@ following (a ∷ b ∷ []) = word_of a b ∷ []
 following (a ∷ b ∷ c ∷ []) = word_of a b ∷ []
 following (a ∷ b ∷ c ∷ d ∷ bytes) = word_of a b ∷ word_of c d ∷ []
 
--- the statement at this location, where these bytes begin: a data byte if the location is odd or only one byte is left; without bytes,
--- a data byte of 0
-abbrev pub front_statement : ℕ → Bytes → Statement
-front_statement location [] = DataByte 0
-front_statement location (byte ∷ []) = DataByte byte
-front_statement location (low ∷ high ∷ bytes) =
-    if location % 2 == 0 then statement_of location (word_of low high) (following bytes) else DataByte low
+-- the statement at this even location, where this word begins and these follow: a word of data if it has a reference of its own that stands
+-- for it, since no instruction's code has one
+abbrev pub word_statement : References → ℕ → ℕ → List ℕ → Statement
+word_statement references location word more = if is_data references.own then DataWord word else statement_of location word more
+
+-- the number of words of that statement
+abbrev pub word_size : References → ℕ → List ℕ → ℕ
+word_size references word more = if is_data references.own then 1 else size_of word more
+
+-- the statement at this location, where these bytes begin, if its words have these references: a data byte if the location is odd or only one
+-- byte is left; without bytes, a data byte of 0
+abbrev pub front_statement : References → ℕ → Bytes → Statement
+front_statement references location [] = DataByte 0
+front_statement references location (byte ∷ []) = DataByte byte
+front_statement references location (low ∷ high ∷ bytes) =
+    if location % 2 == 0 then word_statement references location (word_of low high) (following bytes) else DataByte low
 
 -- the size in bytes of the statement at this location
-abbrev pub front_size : ℕ → Bytes → ℕ
-front_size location [] = 1
-front_size location (byte ∷ []) = 1
-front_size location (low ∷ high ∷ bytes) = if location % 2 == 0 then 2 * size_of (word_of low high) (following bytes) else 1
+abbrev pub front_size : References → ℕ → Bytes → ℕ
+front_size references location [] = 1
+front_size references location (byte ∷ []) = 1
+front_size references location (low ∷ high ∷ bytes) =
+    if location % 2 == 0 then 2 * word_size references (word_of low high) (following bytes) else 1
 
 -- ---- the line of a statement
 
@@ -64,12 +76,12 @@ line_by location shown source =
 -- no comment if there is no such symbol
 abbrev pub front_source : List Symbol → References → ℕ → Bytes → Bytes
 front_source symbols references location bytes =
-    statement_text symbols references (front_statement location bytes) ++ address_name (codes "\t;") symbols location
+    statement_text symbols references (front_statement references location bytes) ++ address_name (codes "\t;") symbols location
 
--- the line of the statement at this location, whose words after the code have these references
+-- the line of the statement at this location, whose words have these references
 abbrev pub line_text : List Symbol → References → ℕ → Bytes → Bytes
 line_text symbols references location bytes =
-    line_by location (take (front_size location bytes) bytes) (front_source symbols references location bytes)
+    line_by location (take (front_size references location bytes) bytes) (front_source symbols references location bytes)
 
 -- ---- lines one after another
 
@@ -82,22 +94,22 @@ abbrev pub unreferred : ℕ → References
 unreferred index = no_references
 
 -- the lines that begin among these bytes, the first of which has this index in a text or block at this address; `references` gives the
--- references of an instruction by the index of its code. The previous line shows the first `shown` bytes, and `beyond` follows the bytes
+-- references of a statement's words by the index of its first byte. The previous line shows the first `shown` bytes, and `beyond` follows the bytes
 abbrev pub lines_from : List Symbol → (ℕ → References) → ℕ → ℕ → ℕ → Bytes → Bytes → Bytes
 lines_from symbols references address index shown [] beyond = []
 lines_from symbols references address index zero (byte ∷ bytes) beyond =
     line_text symbols (references index) (location_after address index) ((byte ∷ bytes) ++ beyond)
-    ++ lines_from symbols references address (index + 1) (front_size (location_after address index) ((byte ∷ bytes) ++ beyond) - 1)
-    bytes beyond
+    ++ lines_from symbols references address (index + 1)
+    (front_size (references index) (location_after address index) ((byte ∷ bytes) ++ beyond) - 1) bytes beyond
 lines_from symbols references address index (suc shown) (byte ∷ bytes) beyond =
     lines_from symbols references address (index + 1) shown bytes beyond
 
 -- how many bytes of `beyond` are shown by the last line that begins among these bytes, or by the previous line if none begins there
-abbrev pub over_from : ℕ → ℕ → ℕ → Bytes → Bytes → ℕ
-over_from address index shown [] beyond = shown
-over_from address index zero (byte ∷ bytes) beyond =
-    over_from address (index + 1) (front_size (location_after address index) ((byte ∷ bytes) ++ beyond) - 1) bytes beyond
-over_from address index (suc shown) (byte ∷ bytes) beyond = over_from address (index + 1) shown bytes beyond
+abbrev pub over_from : (ℕ → References) → ℕ → ℕ → ℕ → Bytes → Bytes → ℕ
+over_from references address index shown [] beyond = shown
+over_from references address index zero (byte ∷ bytes) beyond = over_from references address (index + 1)
+    (front_size (references index) (location_after address index) ((byte ∷ bytes) ++ beyond) - 1) bytes beyond
+over_from references address index (suc shown) (byte ∷ bytes) beyond = over_from references address (index + 1) shown bytes beyond
 
 -- the lines of these bytes, with the first byte at this address and nothing beyond the last
 abbrev pub lines : List Symbol → (ℕ → References) → ℕ → Bytes → Bytes

@@ -57,9 +57,9 @@ text_lines Instructions address shown bytes relocations after =
     ++ other_places address (length bytes) relocations
 
 -- how many bytes of the next text are shown in the lines of a text
-abbrev pub text_over : View → ℕ → ℕ → Bytes → Bytes → ℕ
-text_over Octal address shown bytes after = 0
-text_over Instructions address shown bytes after = over_from address 0 shown bytes after
+abbrev pub text_over : View → ℕ → ℕ → Bytes → List Relocation → Bytes → ℕ
+text_over Octal address shown bytes relocations after = 0
+text_over Instructions address shown bytes relocations after = over_from (references_at relocations) address 0 shown bytes after
 
 -- ---- one record after another
 
@@ -81,7 +81,7 @@ text_of view p content records = record_lines p.address content
 
 -- the state after a record
 abbrev pub point_after : View → Point → Content → List Content → Point
-point_after view p (Text own bytes) records = point own (text_over view own p.shown bytes (beyond own bytes records)) true
+point_after view p (Text own bytes) records = point own (text_over view own p.shown bytes (places records) (beyond own bytes records)) true
 point_after view p (Relocations relocations) records = point p.address (if p.beside then p.shown else 0) false
 point_after view p content records = point p.address 0 false
 

@@ -207,7 +207,7 @@ held_lines view held after = text_lines view held.address held.shown held.bytes.
 
 -- how many of the bytes that continue the pending text are shown by its lines
 abbrev pub held_over : View → HeldText → Bytes → ℕ
-held_over view held after = text_over view held.address held.shown held.bytes.items after
+held_over view held after = text_over view held.address held.shown held.bytes.items (held_places (places_in held)) after
 
 -- the pending text was shown; or none is pending, and nothing was written; or showing it failed, for the reason that the fault gives
 abbrev pub ShowsHeld : View → Option HeldText → Bytes → OutputState → OutputState → Result ℕ DumpFault → Type 0

@@ -33,6 +33,10 @@ reference_at [] index = None
 reference_at (relocation ∷ relocations) index =
     if names_byte index relocation && not relocation.is_byte then reference_of relocation.target else reference_at relocations index
 
--- the references of the two words after the code of an instruction whose code begins at the byte with this index
+-- the references of the word that begins at the byte with this index, and of the two words after it
 abbrev pub references_at : List Relocation → ℕ → References
-references_at relocations index = record { first = reference_at relocations (index + 2); second = reference_at relocations (index + 4) }
+references_at relocations index = record {
+  own = reference_at relocations index;
+  first = reference_at relocations (index + 2);
+  second = reference_at relocations (index + 4);
+}

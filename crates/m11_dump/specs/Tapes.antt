@@ -52,7 +52,7 @@ block_text (AsInstructions symbols) shown block after =
 -- how many bytes of the next block are shown in the text of a block
 abbrev pub over : TapeView → ℕ → ℕ × Bytes → Bytes → ℕ
 over InOctal shown block after = 0
-over (AsInstructions symbols) shown block after = over_from block.0 0 shown block.1 after
+over (AsInstructions symbols) shown block after = over_from unreferred block.0 0 shown block.1 after
 
 -- a list with the text of each of these blocks; the first `shown` bytes of the first one were shown before
 abbrev pub texts_from : TapeView → ℕ → List (ℕ × Bytes) → List Bytes

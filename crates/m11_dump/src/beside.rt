@@ -118,7 +118,7 @@ fn put_line_at(
     requires few { index < 65536 }
     ensures text { OnOk result (text.new.items ≡ text.old.items
         ++ spec.line_at (references_at places.now index) location shown bytes.now) }
-    ensures left { IfOk result (λ left. left ≡ spec.left_at location shown bytes.now) }
+    ensures left { IfOk result (λ left. left ≡ spec.left_at (references_at places.now index) location shown bytes.now) }
 {
     if shown == 0 {
         let references = references_at(places, index);
@@ -145,7 +145,7 @@ pub(crate) fn put_lines_beside(
     ensures text { OnOk result (text.new.items ≡ text.old.items
         ++ spec.lines_beside (references_at places.now) (spec.places_at address places.now) address 0 shown
         (take own bytes.now) (drop own bytes.now)) }
-    ensures over { IfOk result (λ over. over ≡ over_from address 0 shown (take own bytes.now) (drop own bytes.now)) }
+    ensures over { IfOk result (λ over. over ≡ over_from (references_at places.now) address 0 shown (take own bytes.now) (drop own bytes.now)) }
 {
     let mut left = shown;
     'bytes: for index in 0..own {

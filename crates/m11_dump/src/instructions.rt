@@ -10,7 +10,8 @@ use crate::words::word_of;
 use arrayvec::ArrayVec;
 use m11_base::octal6;
 use m11_base_disassembly::{
-    References, Source, Symbol, address_name, byte_source, disassembled, no_references,
+    References, Source, Symbol, address_name, byte_source, disassembled, is_data, no_references,
+    word_source,
 };
 use m11_obj_print::{Line, add_bytes};
 use std::alloc::AllocError;
@@ -52,16 +53,21 @@ fn following(bytes: &[u8]) -> ArrayVec<u16, 2>
 }
 
 // The statement at this location, where these bytes begin, with the names that these symbols give to addresses in operands, and these references
-// of its words: a data byte if the location is odd or only one byte is left; without bytes, a data byte of 0.
+// of its words: a word of data if its own reference stands for it; a data byte if the location is odd or only one byte is left; without bytes, a
+// data byte of 0.
 fn front_of(symbols: &[Symbol], references: &References, location: u16, bytes: &[u8]) -> Front
     requires { 0 < length bytes.now }
-    ensures source { result.source.items ≡ statement_text symbols.now references.now (spec.front_statement location bytes.now) }
-    ensures size { result.size ≡ spec.front_size location bytes.now }
+    ensures source { result.source.items ≡ statement_text symbols.now references.now (spec.front_statement references.now location bytes.now) }
+    ensures size { result.size ≡ spec.front_size references.now location bytes.now }
     ensures some { 0 < result.size }
     ensures few { result.size ≤ 6 }
     ensures there { result.size ≤ length bytes.now }
 {
     match bytes {
+        [low, high, ..] if location % 2 == 0 && is_data(&references.own) => Front {
+            source: word_source(references, word_of(*low, *high)),
+            size: 2,
+        },
         [low, high, others @ ..] if location % 2 == 0 => {
             let found = disassembled(
                 symbols,
@@ -148,7 +154,7 @@ pub(crate) fn put_line(
 ) -> Result<usize, AllocError>
     requires { 0 < length bytes.now }
     ensures text { OnOk result (text.new.items ≡ text.old.items ++ spec.line_text symbols.now references.now location bytes.now) }
-    ensures size { IfOk result (λ size. size ≡ spec.front_size location bytes.now) }
+    ensures size { IfOk result (λ size. size ≡ spec.front_size references.now location bytes.now) }
     ensures some { IfOk result (λ size. 0 < size) }
     ensures there { IfOk result (λ size. size ≤ length bytes.now) }
 {
@@ -185,7 +191,7 @@ pub(crate) fn put_lines(
     requires few { own ≤ 65536 }
     ensures text { OnOk result (text.new.items
         ≡ text.old.items ++ spec.lines_from symbols.now spec.unreferred address 0 shown (take own bytes.now) (drop own bytes.now)) }
-    ensures over { IfOk result (λ over. over ≡ spec.over_from address 0 shown (take own bytes.now) (drop own bytes.now)) }
+    ensures over { IfOk result (λ over. over ≡ spec.over_from spec.unreferred address 0 shown (take own bytes.now) (drop own bytes.now)) }
 {
     let mut index = shown;
     'lines: while index < own {

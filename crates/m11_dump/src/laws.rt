@@ -1,15 +1,17 @@
 //! Laws about what a dump shows, and about the offset that it reports for the first byte of a block's content.
 
-ghost use Rattle.std.specs.Prelude.{◌≡◌, ◌⊎◌, ◌+◌, ◌*◌, ◌<◌, ◌≤◌, ◌++◌, ◌∷◌, [], ℕ, List, drop, length, take, Ok};
+ghost use Rattle.std.specs.Prelude.{◌≡◌, ◌⊎◌, ◌+◌, ◌*◌, ◌%◌, ◌<◌, ◌≤◌, ◌++◌, ◌∷◌, [], ℕ, List, drop, length, take, codes, true, false, Ok, Some};
 ghost use Rattle.std.specs.List.{AllByRecursion};
 ghost use Rattle.m11_base.specs.Devices.{Bytes};
 ghost use Rattle.m11_base.specs.Octal.{octal_text, octal_value};
 ghost use Rattle.m11_dump.specs.BesideLaws.{AreBeside, IsShownAfter, IsShownBeside};
+ghost use Rattle.m11_base_disassembly.specs.declared.references.Reference.{Reference};
 ghost use Rattle.m11_base_disassembly.specs.declared.references.References.{References};
 ghost use Rattle.m11_base_disassembly.specs.declared.symbols.Symbol.{Symbol};
-ghost use Rattle.m11_base_disassembly.specs.References.{no_references};
+ghost use Rattle.m11_base_disassembly.specs.References.{is_data, no_references, referred_text, stands_in};
+ghost use Rattle.m11_base_disassembly.specs.Symbols.{address_name};
 ghost use Rattle.m11_base_disassembly.specs.Texts.{statement_text};
-ghost use Rattle.m11_dump.specs.Instructions.{AreLines, front_source, front_statement, lines, lines_from, over_from, unreferred};
+ghost use Rattle.m11_dump.specs.Instructions.{AreLines, front_size, front_source, front_statement, line_by, line_text, lines, lines_from, over_from, unreferred};
 ghost use Rattle.m11_obj.specs.declared.relocations.Relocation.{Relocation};
 ghost use Rattle.m11_obj_blocks.specs.Blocks.{first_block};
 ghost use Rattle.m11_dump.specs.Positions.{LiesAt, content_start};
@@ -37,10 +39,10 @@ pub fn each_byte_is_shown_once_in_order()
     ensures lines { (symbols : List Symbol) (references : ℕ → References) (address : ℕ) (bytes : Bytes)
         → (all : List Bytes) × AreLines address 0 all bytes (lines symbols references address bytes) }
     ensures joined { (symbols : List Symbol) (references : ℕ → References) (address shown : ℕ) (bytes beyond : Bytes) → (all : List Bytes)
-        × AreLines address shown all (drop shown (bytes ++ take (over_from address 0 shown bytes beyond) beyond))
+        × AreLines address shown all (drop shown (bytes ++ take (over_from references address 0 shown bytes beyond) beyond))
         (lines_from symbols references address 0 shown bytes beyond) }
-    ensures within { (address shown : ℕ) (bytes beyond : Bytes) → shown ≤ length bytes
-        → over_from address 0 shown bytes beyond ≤ length beyond }
+    ensures within { (references : ℕ → References) (address shown : ℕ) (bytes beyond : Bytes) → shown ≤ length bytes
+        → over_from references address 0 shown bytes beyond ≤ length beyond }
     ensures spelled { (byte : ℕ) → byte < 256 → octal_value (octal3 byte) ≡ byte }
 {}
 
@@ -59,7 +61,20 @@ pub fn each_word_is_shown_once_in_order()
 #[tactic(auto, using(crate::proofs::EachLine::statement_alone))]
 pub fn lines_without_names_end_with_their_statements()
     ensures { (location : ℕ) (bytes : Bytes) → front_source [] no_references location bytes
-        ≡ statement_text [] no_references (front_statement location bytes) }
+        ≡ statement_text [] no_references (front_statement no_references location bytes) }
+{}
+
+/// At an even location, the line of a word with a reference of its own that stands for it, as of an address in a table, shows a word of data
+/// with what the word refers to. Without such a reference, a statement is what it is without references.
+#[tactic(auto, using(crate::proofs::EachLine::statement_otherwise, crate::proofs::EachLine::word_referring))]
+pub fn a_word_that_refers_is_shown_as_data()
+    ensures word { (symbols : List Symbol) (references : References) (reference : Reference) (location low high : ℕ) (bytes : Bytes)
+        → location % 2 ≡ 0 → references.own ≡ Some reference → stands_in false reference ≡ true
+        → line_text symbols references location (low ∷ high ∷ bytes) ≡ line_by location (low ∷ high ∷ [])
+        ((codes ".WORD  " ++ referred_text reference.name reference.constant) ++ address_name (codes "\t;") symbols location) }
+    ensures others { (references : References) (location : ℕ) (bytes : Bytes) → is_data references.own ≡ false
+        → (front_statement references location bytes ≡ front_statement no_references location bytes)
+        × (front_size references location bytes ≡ front_size no_references location bytes) }
 {}
 
 /// If a block begins where another ends, both together have the same lines of instructions as one block with the bytes of both,
@@ -69,7 +84,7 @@ pub fn blocks_that_go_on_are_shown_as_one()
     ensures { (symbols : List Symbol) (address shown : ℕ) (bytes next beyond : Bytes) → take 5 (next ++ beyond) ≡ take 5 next
         → lines_from symbols unreferred address 0 shown (bytes ++ next) beyond
         ≡ lines_from symbols unreferred address 0 shown bytes (take 5 next)
-        ++ lines_from symbols unreferred (location_after address (length bytes)) 0 (over_from address 0 shown bytes (take 5 next)) next beyond }
+        ++ lines_from symbols unreferred (location_after address (length bytes)) 0 (over_from unreferred address 0 shown bytes (take 5 next)) next beyond }
 {}
 
 /// The lines of a text with relocations beside them are its lines without relocations, with the relocations of each byte inserted

@@ -56,8 +56,8 @@ pub use fault::{DumpFault, LocatedFault};
 mod laws;
 
 pub use laws::{
-    blocks_that_go_on_are_shown_as_one, contents_begin_at_their_reported_offsets,
-    each_byte_is_shown_once_in_order, each_relocation_is_shown_once,
-    each_word_is_shown_once_in_order, lines_without_names_end_with_their_statements,
-    relocations_stand_beside_lines,
+    a_word_that_refers_is_shown_as_data, blocks_that_go_on_are_shown_as_one,
+    contents_begin_at_their_reported_offsets, each_byte_is_shown_once_in_order,
+    each_relocation_is_shown_once, each_word_is_shown_once_in_order,
+    lines_without_names_end_with_their_statements, relocations_stand_beside_lines,
 };

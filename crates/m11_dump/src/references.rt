@@ -58,12 +58,13 @@ fn reference_at(places: &[Relocation], index: usize) -> Option<Reference>
     }
 }
 
-/// The references of the two words after the code of an instruction whose code begins at the byte with this index.
+/// The references of the word that begins at the byte with this index, and of the two words after it.
 pub(crate) fn references_at(places: &[Relocation], index: usize) -> References
     requires { index < 65536 }
     ensures { result ≡ spec.references_at places.now index }
 {
     References {
+        own: reference_at(places, index),
         first: reference_at(places, index + 2),
         second: reference_at(places, index + 4),
     }

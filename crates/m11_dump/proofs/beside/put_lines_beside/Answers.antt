@@ -18,6 +18,6 @@ bytes-preserved c =
       over = over_passed c.args.bytes.now c.args.address c.args.own c.bytes.index c.requires.there below
           c.location_after.result c.location_after.ensures (references_at c.args.places.now) (places_at c.args.address c.args.places.now) c.bytes.left
           c.in_ok-left.left c.in_ok-left.ensures.left
-          (over_from c.args.address 0 c.args.shown (take c.args.own c.args.bytes.now) (drop c.args.own c.args.bytes.now))
+          (over_from (references_at c.args.places.now) c.args.address 0 c.args.shown (take c.args.own c.args.bytes.now) (drop c.args.own c.args.bytes.now))
           c.bytes.invariant.over;
     }

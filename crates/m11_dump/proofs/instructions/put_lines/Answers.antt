@@ -2,7 +2,7 @@ use Rattle.std.proofs.Common.{◌≡◌, ◌∙◌, ℕ, ◌-◌, ◌++◌, ◌<
 use Rattle.std.proofs.lemmas.List.{length-take-le}
 use Rattle.m11_base_disassembly.specs.References.{no_references}
 use Rattle.m11_base_disassembly.specs.declared.references.References.{References}
-use Rattle.m11_dump.specs.Instructions.{line_text, lines_from, over_from, unreferred}
+use Rattle.m11_dump.specs.Instructions.{front_size, line_text, lines_from, over_from, unreferred}
 use Rattle.m11_dump.proofs.LinesShown.{line_shown, lines_begin, over_begins, over_shown}
 use Rattle.m11_dump.proofs.instructions.put_lines.Goals as goal
 
@@ -27,11 +27,14 @@ lines-preserved c =
     ≡ c.lines.text.items ++ line_text c.args.symbols.now no_references c.location_after.result bytes =
     c.in_ok-index.ensures.text
     ∙ ap (λ (r : References). c.lines.text.items ++ line_text c.args.symbols.now r c.location_after.result bytes) c.no_references.ensures in
+    let size : c.in_ok-index.field-0 ≡ front_size no_references c.location_after.result bytes =
+    c.in_ok-index.ensures.size
+    ∙ ap (λ (r : References). front_size r c.location_after.result bytes) c.no_references.ensures in
     record {
       leads = line_shown c.args.bytes.now c.args.address c.args.own c.lines.index c.in_ok-index.field-0 c.requires.there below
-          c.in_ok-index.ensures.some c.location_after.result c.location_after.ensures c.in_ok-index.ensures.size
+          c.in_ok-index.ensures.some c.location_after.result c.location_after.ensures size
           c.args.symbols.now all c.lines.text.items c.put_line.new.text.items c.lines.invariant.leads line;
       over = over_shown c.args.bytes.now c.args.address c.args.own c.lines.index c.in_ok-index.field-0 c.requires.there below
-          c.in_ok-index.ensures.some c.location_after.result c.location_after.ensures c.in_ok-index.ensures.size
-          (over_from c.args.address 0 c.args.shown mine beyond) c.lines.invariant.over;
+          c.in_ok-index.ensures.some c.location_after.result c.location_after.ensures size
+          (over_from unreferred c.args.address 0 c.args.shown mine beyond) c.lines.invariant.over;
     }
