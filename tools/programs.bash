@@ -13,8 +13,8 @@ names=(m11 m11-dump m11-trace)
 crate_of() {
     case $1 in
         m11) echo m11 ;;
-        m11-dump) echo m11_dumper ;;
-        m11-trace) echo m11_tracer ;;
+        m11-dump) echo m11_dump_program ;;
+        m11-trace) echo m11_trace_program ;;
         *) return 1 ;;
     esac
 }

@@ -147,7 +147,7 @@ SHOWN_SOURCE = """\
 """
 SHOWN_TEXT_AS_SOURCE = """\
 TEXT 000010
-  000010 000400               BR     12
+  000010 000400               .WORD  2
   000010 INTERNAL 000002
   000012 001402               BEQ    20
   000012 GLOBAL ADDITIVE DISPLACED OTHER  000001 BYTE
@@ -380,6 +380,28 @@ CASES = (
      {"A.OBJ": FRONT + text(0, 0o12700, 7, 0o5067, 0) + block(word(4) + b"\1\6" + word(0o20) + b"\3\12" + word(0o177564)) + END}, 0,
      "OBJECT A.OBJ\n" + SHOWN_FRONT + "TEXT 000000\n  000000 012700 000007        MOV    #20,R0\n  000002 INTERNAL 000020\n"
      "  000004 005067 000000        CLR    177564\n  000006 INTERNAL DISPLACED 177564\n" + SHOWN_END, ""),
+    ("words of a table by what they refer to", "-d A.OBJ",
+     {"A.OBJ": FRONT + text(0, 0, 0, 7, 0, 0, 0o12737, 0o241, 0o5077) + block(
+         word(4) + b"\2\4" + name("OTHER") + b"\5\6" + name("OTHER") + word(4) + b"\1\10" + word(0o20) + b"\202\12" + name("OTHER")
+         + b"\4\14" + name("OTHER") + b"\15\16" + name("CODE") + word(2)) + block(word(3) + word(0o20) + b"\1") + END}, 0,
+     "OBJECT A.OBJ\n" + SHOWN_FRONT + "TEXT 000000\n  000000 000000               .WORD  OTHER\n  000000 GLOBAL OTHER\n"
+     "  000002 000000               .WORD  OTHER+4\n  000002 GLOBAL ADDITIVE OTHER  000004\n  000004 000007               .WORD  20\n"
+     "  000004 INTERNAL 000020\n  000006 000000               HALT\n  000006 GLOBAL OTHER  BYTE\n  000010 000000               HALT\n"
+     "  000010 GLOBAL DISPLACED OTHER\n  000012 012737               .WORD  CODE+2\n  000012 SECTION ADDITIVE CODE   000002\n"
+     "  000014 000241               CLC\n  000016 005077               .WORD  5077\nTEXT 000020\n  000020 001                  .BYTE  1\n" + SHOWN_END, ""),
+    ("a word of a table after an instruction, and one between bytes", "-d A.OBJ",
+     {"A.OBJ": FRONT + text(0, 0o12700, 0, 0o12700) + block(word(4) + b"\2\6" + name("OTHER") + b"\2\10" + name("START")) + text(6, 0o240)
+      + block(word(3) + word(0o11) + b"\7\0\0\6") + block(word(4) + b"\12\5" + name("OLD")) + END}, 0,
+     "OBJECT A.OBJ\n" + SHOWN_FRONT + "TEXT 000000\n  000000 012700 000000        MOV    #OTHER,R0\n  000002 GLOBAL OTHER\n"
+     "  000004 012700               .WORD  START\n  000004 GLOBAL START\nTEXT 000006\n  000006 000240               NOP\n"
+     "TEXT 000011\n  000011 007                  .BYTE  7\n  000012 000000               .WORD  OLD\n  000012 SECTION OLD\n"
+     "  000014 006                  .BYTE  6\n" + SHOWN_END, ""),
+    ("words whose relocations have a blank name or cross locations", "-d A.OBJ",
+     {"A.OBJ": DIRECTORY + block(word(1) + entry("", 0o40, 5, 2)) + FRONT[len(DIRECTORY):] + block(word(3) + word(0) + b"\240\0\0\0\0\0") + block(
+         word(4) + b"\12\4" + name("") + b"\2\7" + name("OTHER")) + END}, 0,
+     "OBJECT A.OBJ\n" + SHOWN + "SECTION          000002 RW,I,LCL,REL,CON\n" + SHOWN_FRONT[len(SHOWN):]
+     + "TEXT 000000\n  000000 000240               NOP\n  000000 SECTION\n  000002 000000               HALT\n  000003 GLOBAL OTHER\n"
+     "  000004 000000               HALT\n" + SHOWN_END, ""),
     ("a text that is shown in the line before it", "-d A.OBJ", {"A.OBJ": FRONT + text(0, 0o4767) + text(2, 0) + CALL + text(4, 0o241) + END}, 0,
      "OBJECT A.OBJ\n" + SHOWN_FRONT + "TEXT 000000\n  000000 004767 000000        JSR    PC,4\nTEXT 000002\n"
      "  000002 GLOBAL DISPLACED OTHER\nTEXT 000004\n  000004 000241               CLC\n" + SHOWN_END, ""),
@@ -537,8 +559,9 @@ CASES = (
      "\tBPL    1012\n\tJSR    PC,L01004\n\tBR     1002\n\tJMP    @#NEXT\n\t.END\tMAIN\n", ""),
     ("a source of a tape without bytes", "-s -t A.TAP", {"A.TAP": block(word(1))}, 0, "\t.ASECT\n\t.END\n", ""),
     ("a source of an object", "-s A.OBJ", {"A.OBJ": FRONT + REST}, 4, "", "?M11 DUMP 21 NotTape OF A.OBJ\n"),
-    ("a source of a tape and of an object", "-s A.TAP A.OBJ", {"A.TAP": block(word(0o1000)), "A.OBJ": FRONT + REST}, 4, "\t.ASECT\n\t.END\t1000\n",
-     "?M11 DUMP 21 NotTape OF A.OBJ\n"),
+    ("sources of several files", "-s A.TAP A.OBJ", {"A.TAP": block(word(0o1000))}, 2, "", "?M11 DUMP 22 SeveralFiles\n"),
+    ("sources of several files, before the files of names", "-s -y A.MAP A.TAP A.TAP", {}, 2, "", "?M11 DUMP 22 SeveralFiles\n"),
+    ("a load map of several objects, even with -s", "-s -m A.OBJ A.OBJ", {}, 3, "", "?M11 OPEN A.OBJ\n"),
     ("no source of a tape that is cut short", "-s A.TAP", {"A.TAP": block(word(0o1000) + word(0o777)) + block(word(0o1002) + word(0))[:-1]}, 4, "",
      "?M11 DUMP 20 Tape 2 Truncated IN BLOCK 2 AT BYTE 17 OF A.TAP\n"),
     ("no source of a file that isn't there", "-s A.TAP", {}, 3, "", "?M11 OPEN A.TAP\n"),

@@ -72,8 +72,8 @@ def main(words):
                 file.write(base64.b64decode(coded[1]))
             counts.add("suite", ["node", "web/tests/suite.mjs", module], r"(\d+) of \d+ cases hold")
             counts.add("limits", ["node", "web/tests/limits.mjs", module], r"(\d+) of \d+ sizes hold")
-        program = [os.path.join(folder, name) for name in ("m11.mjs", "m11")]
-        counts.add("the program for Node", [sys.executable, "web/tests/node.py", *program], r"(\d+) calls are the same")
+        program = [sys.executable, "web/tests/node.py", os.path.join(folder, "m11.mjs"), folder]
+        counts.add("the program for Node", program, r"(\d+) calls are the same")
     print(f"{counts.passed} passed, {counts.failed} failed")
     return 1 if counts.failed else 0
 

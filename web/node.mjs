@@ -1,6 +1,7 @@
-// m11 under Node: node m11.mjs asm|link|sim ..., with the words of the native program. It runs the WebAssembly module of m11 on the files of
-// the system. Files to read are given to the module beforehand, so each word that names a file is read; files that the module makes are
-// written when it has ended. A run gets what standard input has at the moment when the program asks, and prints at once.
+// m11 under Node: node m11.mjs asm|link|sim ..., with the words of the native program; and dump|trace ..., with those of m11-dump and m11-trace.
+// It runs the WebAssembly module of m11 on the files of the system. Files to read are given to the module beforehand, so each word that names a
+// file is read; files that the module makes are written when it has ended. A run of `sim` gets what standard input has at the moment when the
+// program asks, and prints at once; a run of `trace` gets all of standard input beforehand, and prints at its end.
 
 import { Module, Refused } from "./module.mjs";
 import fs from "node:fs";
@@ -8,7 +9,10 @@ import fs from "node:fs";
 const SLICE = 1000000;
 
 // Options of which the value is a file to write.
-const OUTPUTS = { asm: ["o", "l", "output", "listing"], link: ["o", "m", "output", "map"], sim: [] };
+const OUTPUTS = { asm: ["o", "l", "output", "listing"], link: ["o", "m", "output", "map"], trace: ["o", "output"] };
+
+// Of each view its program's name, and the module's call for it.
+const VIEWS = { dump: ["m11-dump", "m11_dump"], trace: ["m11-trace", "m11_trace"] };
 
 // The words that may name files to read: each word, and what is joined to an option; but no value of an option for a file to write.
 function namesIn(command, words) {
@@ -25,7 +29,8 @@ function namesIn(command, words) {
         }
         names.push(word);
         if (long?.[2]) names.push(long[2]);
-        if (short?.[2]) names.push(short[2]);
+        // Options without a value may stand before the one with the value, as in -dyNAMES.
+        for (let from = 2; short && from < word.length; from++) names.push(word.slice(from));
     }
     return [...new Set(names)];
 }
@@ -79,8 +84,22 @@ function keep(made) {
     return null;
 }
 
+// Carries out a command of `m11`.
 function whole(module, words) {
-    const answer = module.run("m11_command", ["m11", ...words], filesAt(namesIn(words[0], words.slice(1)), false));
+    return finish(module.run("m11_command", ["m11", ...words], filesAt(namesIn(words[0], words.slice(1)), false)));
+}
+
+// Carries out `dump` or `trace`. Without files either ends with status 3 if its words are right; only then is input read.
+function view(module, [name, ...words]) {
+    const [program, call] = VIEWS[name];
+    const refusal = module.run(call, [program, ...words], []);
+    if (refusal.status !== 3) return finish(refusal);
+    const isTrace = name === "trace";
+    return finish(module.run(call, [program, ...words], filesAt(namesIn(name, words), isTrace), isTrace ? readAll() : new Uint8Array(0)));
+}
+
+// Leaves what a command made: its files, what it printed and its messages. Returns its status.
+function finish(answer) {
     const refused = keep(answer.made);
     if (refused !== null) {
         write(2, Buffer.concat([Buffer.from("?M11 OPEN "), refused, Buffer.from("\n")]));
@@ -120,6 +139,13 @@ function read() {
             Atomics.wait(new Int32Array(new SharedArrayBuffer(4)), 0, 0, 5);
         }
     }
+}
+
+// All bytes of standard input, up to its end.
+function readAll() {
+    const parts = [];
+    for (let part = read(); part.length > 0; part = read()) parts.push(part);
+    return Buffer.concat(parts);
 }
 
 const octal = (word) => word.toString(8).padStart(6, "0");
@@ -193,7 +219,8 @@ async function main(coded) {
     const words = process.argv.slice(2);
     const module = await Module.from(Buffer.from(coded, "base64"));
     try {
-        process.exitCode = words[0] === "sim" ? simulate(module, words) : whole(module, words);
+        if (Object.hasOwn(VIEWS, words[0] ?? "")) process.exitCode = view(module, words);
+        else process.exitCode = words[0] === "sim" ? simulate(module, words) : whole(module, words);
     } catch (error) {
         if (!(error instanceof Refused)) throw error;
         write(2, Buffer.from(`m11: ${error.message}\n`));

@@ -31,7 +31,7 @@ LINK = {0: "", 1: LINK_MESSAGES, 2: f"{PARSER}|{USAGE}|{SCRIPT}",
 SIM = {0: stop("HALT"), 1: stop("LIMIT|WAIT|STACK FAULT|NO START"), 2: f"{PARSER}|{USAGE}",
        3: stop("INPUT FAULT|OUTPUT FAULT") + rf"|\?M11 SIM 1 Device\n|{OPEN}",
        4: rf"\?M11 SIM {BAD_TAPE}\n", 6: r"\?M11 SIM 9 TooMuch\n"}
-DUMP = {0: "", 2: f"{PARSER}|{OF_OPTIONS}",
+DUMP = {0: "", 2: rf"{PARSER}|{OF_OPTIONS}|\?M11 DUMP 22 SeveralFiles\n",
         3: rf"\?M11 DUMP 1 Read{AT}\n|\?M11 DUMP 1 Read OF {PATH}\n|\?M11 DUMP 2 Write({AT})?\n|{OPEN}|{MAP_FAULT[3]}",
         4: rf"\?M11 DUMP ({BAD_OBJECT}|20 Tape [2-8] \w+){AT}\n|\?M11 DUMP ({BAD_OBJECT}|21 NotTape) OF {PATH}\n|{MAP_FAULT[4]}",
         6: rf"\?M11 DUMP (10 TooManyGlobals|11 TooManySections|13 TooMuch){AT}\n|\?M11 DUMP 9 TooLarge\n|\?M11 DUMP 1[0-3] \w+ OF {PATH}\n|{MAP_FAULT[6]}"}

@@ -65,7 +65,7 @@ def check_sources_of_dist(repository):
     last = "./prove --dist proves the sources that are here, and puts their programs into dist/"
     expect(repository, "of these sources", ["--dist"], 0, ["1 passed, 0 failed"])
     changes = (("crates/m11_low/src/lib.rt", "-- a comment\n", [f"dist/{name} is of other sources than those here" for name in PROGRAMS]),
-               ("crates/m11_dumper/src/main.rt", "new\n", ["dist/m11-dump is of other sources than those here"]),
+               ("crates/m11_dump_program/src/main.rt", "new\n", ["dist/m11-dump is of other sources than those here"]),
                ("VERSION", "9.9.9\n", [f"dist/{name} has another version than the file VERSION" for name in PROGRAMS]),
                ("dist/m11-trace", "other\n", ["dist/m11-trace isn't the file that dist/MANIFEST names"]),
                ("dist/MANIFEST", "", [f"dist/ has no {name}, or its MANIFEST doesn't name it" for name in PROGRAMS]))

@@ -15,8 +15,8 @@ from tests.repository import LISTS, NOBODY, PATIENCE, PROGRAMS, checks, lines_of
 
 # The files that rt gets: the crates below the programs, and the data of their runs; no mistakes, and no crate on which none depends.
 GIVEN = ["./.git", "./HANDLES", "./crates.txt", "./crates/m11/args", "./crates/m11/data/P.MAC", "./crates/m11/src/main.rt",
-         "./crates/m11_dumper/src/main.rt", "./crates/m11_dumper/stdin", "./crates/m11_dumper/stdout", "./crates/m11_low/proofs/one/Answers.antt",
-         "./crates/m11_low/specs/Lib.antt", "./crates/m11_low/src/lib.rt", "./crates/m11_tracer/src/main.rt", "./crates/m11_tracer/status"]
+         "./crates/m11_dump_program/src/main.rt", "./crates/m11_dump_program/stdin", "./crates/m11_dump_program/stdout", "./crates/m11_low/proofs/one/Answers.antt",
+         "./crates/m11_low/specs/Lib.antt", "./crates/m11_low/src/lib.rt", "./crates/m11_trace_program/src/main.rt", "./crates/m11_trace_program/status"]
 STOPPED = "prove: stopped before the programs were built; the next call begins again\n"
 NO_ROOM = """#!/bin/sh
 # Copies, but to a path that ends so it writes a beginning, as on a full disk.
@@ -150,11 +150,11 @@ def check_sources(repository):
 def check_names(repository):
     """One program is proved alone, and the others stay."""
     repository.expect_proof("one", 1, ["m11-dump"])
-    repository.expect("the list", lines_of(repository.beside("lists")), ["m11_dumper: m11_low", "m11_low: std"])
+    repository.expect("the list", lines_of(repository.beside("lists")), ["m11_dump_program: m11_low", "m11_low: std"])
     repository.expect("what is there", sorted(os.listdir(repository.at("out"))), ["MANIFEST", "m11-dump", "prove.log"])
     repository.expect_run("the one", "m11-dump")
     repository.expect_proof("all", 2)
-    put(repository.at("crates/m11_tracer/src/main.rt"), "new\n")
+    put(repository.at("crates/m11_trace_program/src/main.rt"), "new\n")
     before = manifest(repository)
     repository.expect_proof("another, of other sources", 2, ["m11"])
     repository.expect_proof("the one of other sources", 3, ["m11-trace"])
@@ -181,12 +181,12 @@ def check_dist(repository):
     repository.expect("its MANIFEST", manifest(repository, "dist"), {name: {word: row[word] for word in row if word != "commit"} for name, row in told.items()})
     out = repository.run([], "prove")[1]
     repository.expect("the same", out.split("\n", 1)[1], "".join(is_same(name) for name in PROGRAMS))
-    put(repository.at("crates/m11_dumper/src/main.rt"), "new\n")
+    put(repository.at("crates/m11_dump_program/src/main.rt"), "new\n")
     status, out, _ = repository.run([], "prove")
     sources = manifest(repository, "dist")["m11-dump"]["sources"]
     repository.expect("of other sources", (status, out), (0, is_same("m11") + is_same("m11-dump") + is_same("m11-trace")))
     put(repository.beside("program"), "#!/bin/sh\necho other\n")
-    put(repository.at("crates/m11_dumper/src/main.rt"), "newer\n")
+    put(repository.at("crates/m11_dump_program/src/main.rt"), "newer\n")
     status, out, _ = repository.run(["m11-dump"], "prove")
     repository.expect("other bytes of other sources", (status, out), (0, f"prove: out/m11-dump isn't dist/m11-dump, which has another sum of sources: {sources}\n"))
     repository.tell("other-kit")
@@ -202,7 +202,7 @@ def check_given(repository):
     named."""
     repository.expect("the call", repository.run([], "prove", prepare=lambda: os.umask(0o077))[0], 0)
     repository.expect("what is given", lines_of(repository.beside("given")), GIVEN)
-    repository.expect("the list", lines_of(repository.beside("lists")), ["m11: m11_low", "m11_low: std", "m11_dumper: m11_low", "m11_tracer: m11_low"])
+    repository.expect("the list", lines_of(repository.beside("lists")), ["m11: m11_low", "m11_low: std", "m11_dump_program: m11_low", "m11_trace_program: m11_low"])
     os.remove(repository.at("HANDLES"))
     put(repository.at("crates/m11_low/src/lib.rt"), "new\n")
     os.mkdir(repository.beside("a part"))
@@ -494,7 +494,7 @@ def check_progress(repository):
     said = re.sub(r"\d+:\d\d$", "TIME", repository.run([], "prove")[2], flags=re.MULTILINE)
     log = repository.at("out/prove.log")
     repository.expect("what it says", said, f"prove: proving and building the programs, which takes minutes; log: {log}\n" + "".join(
-        f"prove: {count} of 4 crates proved: {crate}; TIME\n" for count, crate in enumerate(("m11", "m11_low", "m11_dumper", "m11_tracer"), 1)))
+        f"prove: {count} of 4 crates proved: {crate}; TIME\n" for count, crate in enumerate(("m11", "m11_low", "m11_dump_program", "m11_trace_program"), 1)))
 
 
 def check_terminal(repository):

@@ -14,12 +14,12 @@ import time
 TOP = os.path.dirname(os.path.dirname(os.path.dirname(os.path.realpath(__file__))))
 COPIED = (".ci/run", "VERSION", "check", "m11", "m11-dump", "m11-trace", "prove", "docs/man/m11.1", "tools/completion.bash", "tools/program.sh", "tools/programs.bash",
           "tools/proving.bash", "tools/version")
-LISTS = "# a list for each crate\nm11_low: std\nm11_other: m11_low\nm11: m11_low\nm11_dumper: m11_low\nm11_tracer: m11_low\n"
+LISTS = "# a list for each crate\nm11_low: std\nm11_other: m11_low\nm11: m11_low\nm11_dump_program: m11_low\nm11_trace_program: m11_low\n"
 FILES = ("m11/src/main.rt", "m11_low/src/lib.rt", "m11_low/specs/Lib.antt", "m11_low/proofs/one/Answers.antt", "m11_low/must-fail/one.edit",
-         "m11_other/src/lib.rt", "m11/data/P.MAC", "m11/args", "m11_dumper/src/main.rt", "m11_dumper/stdin", "m11_dumper/stdout",
-         "m11_tracer/src/main.rt", "m11_tracer/status")
+         "m11_other/src/lib.rt", "m11/data/P.MAC", "m11/args", "m11_dump_program/src/main.rt", "m11_dump_program/stdin", "m11_dump_program/stdout",
+         "m11_trace_program/src/main.rt", "m11_trace_program/status")
 # The crate of the program that each script becomes.
-PROGRAMS = {"m11": "m11", "m11-dump": "m11_dumper", "m11-trace": "m11_tracer"}
+PROGRAMS = {"m11": "m11", "m11-dump": "m11_dump_program", "m11-trace": "m11_trace_program"}
 NOBODY = 65534
 # The number of seconds after which waiting for an event fails.
 PATIENCE = 120

@@ -127,11 +127,11 @@ def check_version(repository):
     expect("with git", commit, "those here")
     put(repository.at("docs/man/m11.1"), "other\n")
     expect("with another page", commit + "-dirty", "those here")
-    put(repository.at("crates/m11_dumper/src/main.rt"), "new\n")
+    put(repository.at("crates/m11_dump_program/src/main.rt"), "new\n")
     expect("an edit of another", commit + "-dirty", "those here")
     expect("an edit", commit, others, "m11-dump")
     repository.expect_proof("the edit", 2)
-    put(repository.at("crates/m11_dumper/src/main.rt"), "newer\n")
+    put(repository.at("crates/m11_dump_program/src/main.rt"), "newer\n")
     with open(repository.at("out/MANIFEST"), encoding="utf-8") as file:
         sums["m11-dump"] = next(line.split()[4][:12] for line in file if line.startswith("m11-dump "))
     expect("what was built here", commit + "-dirty", others, "m11-dump")

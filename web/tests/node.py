@@ -1,7 +1,7 @@
 #!/usr/bin/env python3
-"""Compares the program for Node with the native one: web/tests/node.py M11.mjs M11
+"""Compares the program for Node with the native ones: web/tests/node.py M11.mjs FOLDER
 
-Each makes the same calls in a folder of its own, and has to leave the same status, output, messages and files. The last line is
+FOLDER has m11, m11-dump and m11-trace. Each makes the same calls in a folder of its own, and has to leave the same status, output, messages and files. The last line is
 `N calls are the same, M differ`."""
 import os
 import shutil
@@ -38,6 +38,13 @@ CALLS = [
     ("asm -o N.OBJ ENDLESS.MAC", ""), ("link -o N.TAP N.OBJ", ""), ("sim -n 3000001 N.TAP", ""), ("sim N.TAP", ""),
     ("asm -o W.OBJ -l W.LST WRONG.MAC", ""), ("link -o W.TAP -m W.MAP W.OBJ", ""), ("link -b 2000 -o H.TAP N.OBJ E.OBJ", ""), ("link -b 1 -o H.TAP N.OBJ", ""),
     ("asm -o NOWHERE/X.OBJ -l X.LST ENDLESS.MAC", ""), ("asm -o X.OBJ -l NOWHERE/X.LST ENDLESS.MAC", ""), ("asm -o X.OBJ NOTHERE.MAC", ""),
+    ("dump --help", ""), ("trace --help", ""), ("dump", ""), ("trace", ""), ("dump -x", ""), ("trace -n x P.TAP", ""), ("trace -p 1 P.TAP", ""),
+    ("dump P.OBJ P.TAP", ""), ("dump -d -y P.MAP P.TAP", ""), ("dump -dyP.LST P.TAP", ""), ("dump -d P.OBJ E.OBJ", ""), ("dump -m P.OBJ", ""),
+    ("dump -m P.OBJ P.OBJ", ""), ("dump -s -y P.MAP P.TAP", ""), ("dump -s P.TAP E.TAP", ""), ("dump -s P.OBJ", ""), ("dump P.LST", ""), ("dump EMPTY", ""),
+    ("dump NOTHERE.OBJ", ""), ("dump -b 2000 -y P.OBJ -d P.TAP", ""), ("dump -y NOTHERE.MAP P.TAP", ""), ("dump -y PRIMES.MAC P.TAP", ""),
+    ("trace -n 20 P.TAP", ""), ("trace -l 8 -y P.MAP P.TAP", ""), ("trace -p SIEVE -y P.OBJ P.TAP", ""), ("trace -n 10 -o T.OUT P.TAP", ""),
+    ("trace -n 10 --output=T2.OUT -r 1000:1010 P.TAP", ""), ("trace -o NOWHERE/T.OUT P.TAP", ""), ("trace -l 5 E.TAP", "Hello!rest"), ("trace -l 3 E.TAP", "no end"),
+    ("trace EMPTY", ""), ("trace NOTHERE.TAP", ""), ("trace -f 100000 -w 1000 -n 200000 N.TAP", ""),
     ("asm -o U.OBJ Ünïcode.MAC", ""), (["asm", "-o", "A FILE.OBJ", "NAME WITH SPACE.MAC"], ""), ("link -o T.TAP P.LST", ""), ("link -o T.TAP EMPTY", ""),
 ]
 
@@ -55,16 +62,23 @@ def call(program, folder, words, given):
     return {"status": ran.returncode, "output": ran.stdout, "messages": ran.stderr, "files": left(folder)}
 
 
+def is_view(words):
+    return words[:1] in (["dump"], ["trace"])
+
+
+def native_of(words, folder):
+    """The native program for a call that begins with these words."""
+    return [os.path.join(folder, f"m11-{words[0]}" if is_view(words) else "m11")]
+
+
 def main(words):
     if len(words) != 2:
         print(__doc__.split("\n\n")[0], file=sys.stderr)
         return 2
+    module, folder = os.path.abspath(words[0]), words[1]
     differ = 0
     with tempfile.TemporaryDirectory() as room:
-        # The native program says its own name in its help.
-        shutil.copy(words[1], os.path.join(room, "m11"))
-        programs = {"native": [os.path.join(room, "m11")], "node": ["node", os.path.abspath(words[0])]}
-        for name in programs:
+        for name in ("native", "node"):
             os.mkdir(os.path.join(room, name))
             shutil.copy(os.path.join(TOP, "examples/asm/primes/PRIMES.MAC"), os.path.join(room, name))
             for file, text in FILES.items():
@@ -72,11 +86,12 @@ def main(words):
                     it.write(text)
         for line, given in CALLS:
             words = line.split() if isinstance(line, str) else line
-            native, node = (call(program, os.path.join(room, name), words, given) for name, program in programs.items())
+            native = call(native_of(words[:1], os.path.abspath(folder)), os.path.join(room, "native"), words[1:] if is_view(words) else words, given)
+            node = call(["node", module], os.path.join(room, "node"), words, given)
             parts = [part for part in native if native[part] != node[part]]
             if parts:
                 differ += 1
-                print(f"m11 {' '.join(words)}: differs in {', '.join(parts)}")
+                print(f"{' '.join(words)}: differs in {', '.join(parts)}")
                 for part in parts:
                     if part != "files":
                         print(f"  native {native[part]!r:.300}\n  node   {node[part]!r:.300}")

@@ -58,6 +58,7 @@ abbrev pub stop_line : Stop → Bytes
 stop_line (stop.NotOpened path) = path_end (codes "?M11 OPEN ") path.now
 stop_line (stop.InFile path placed) = in_file_line path.now placed
 stop_line (stop.NotTape path) = path_end (codes "?M11 DUMP 21 NotTape OF ") path.now
+stop_line stop.SeveralFiles = codes "?M11 DUMP 22 SeveralFiles\n"
 stop_line (stop.InObject path inner) = object_line path.now inner
 stop_line (stop.InMap inner) = map_line inner
 stop_line (stop.NoSymbols path inner) = path_end (line_head inner) path.now

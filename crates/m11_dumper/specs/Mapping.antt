@@ -3,7 +3,7 @@ use Rattle.std.specs.Prelude.{◌≡◌, ◌<◌, ℕ, List, Option, Some, None,
 use Rattle.m11_base.specs.Devices.{Bytes}
 use Rattle.m11_base.specs.Feed.{Text}
 use Rattle.m11_dumper.specs.declared.stop.Stop.{Stop}
-use Rattle.m11_dumper.specs.declared.stop.Stop.TheVariants.{NotOpened, InFile, NotTape, InObject, InMap, NoSymbols, Write, NoMemory}
+use Rattle.m11_dumper.specs.declared.stop.Stop.TheVariants.{NotOpened, InFile, NotTape, SeveralFiles, InObject, InMap, NoSymbols, Write, NoMemory}
 use Rattle.m11_base_files.specs.Opens.{AreFiles, Files, IsFirstLacking}
 use Rattle.m11_base_writes.specs.Passes.{pass_of}
 use Rattle.m11_link_load_map.specs.Run.{LoadMapRuns}
@@ -41,6 +41,7 @@ ShowsMap text faults bottom files paths out out' (Err (NotOpened named)) =
 ShowsMap text faults bottom files paths out out' (Err NoMemory) = out' ≡ out
 ShowsMap text faults bottom files paths out out' (Err (InFile named placed)) = ⊥
 ShowsMap text faults bottom files paths out out' (Err (NotTape named)) = ⊥
+ShowsMap text faults bottom files paths out out' (Err SeveralFiles) = ⊥
 ShowsMap text faults bottom files paths out out' (Err (NoSymbols named fault)) = ⊥
 
 -- ---- the object at fault

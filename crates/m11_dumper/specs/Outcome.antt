@@ -1,7 +1,7 @@
 -- The outcome of a command line, what is written for it, and its exit status: 0 if all files were shown or help was asked for, 2 if the
 -- command line is refused, 3 if a device failed or a file couldn't be opened, 4 for a malformed file, 5 for lack of memory, 6 for an
 -- exceeded limit. (This project's own; a fault has the same status as in a link or a run.)
-use Rattle.std.specs.Prelude.{◌≡◌, ◌&&◌, ℕ, Bool, true, false, List, Option, Result, Ok, Err}
+use Rattle.std.specs.Prelude.{◌≡◌, ◌&&◌, ℕ, Bool, true, false, List, ◌∷◌, Option, Result, Ok, Err}
 use Rattle.clap.specs.Words.{Text}
 use Rattle.m11_base.specs.Devices.{Bytes}
 use Rattle.m11_base.specs.Feed as feed
@@ -27,13 +27,16 @@ use Rattle.m11_dumper.specs.Lines.{stop_line}
 use Rattle.m11_dumper.specs.Mapping.{ShowsMap}
 use Rattle.m11_dumper.specs.Paths.{Plans}
 use Rattle.m11_dumper.specs.Names.{ShowsNamed}
+use Rattle.m11_dumper.specs.declared.paths.Form.{Form}
+use Rattle.m11_dumper.specs.declared.paths.Form.TheVariants.{Source}
+use Rattle.m11_dumper.specs.declared.paths.Look.{Look}
 use Rattle.m11_dumper.specs.declared.paths.Request.{Request}
 use Rattle.m11_dumper.specs.declared.paths.Show.{Show}
 use Rattle.m11_dumper.specs.declared.paths.Show.TheVariants.{Contents, Map}
 use Rattle.m11_dumper.specs.declared.stop.Outcome.{Outcome}
 use Rattle.m11_dumper.specs.declared.stop.Outcome.TheVariants.{Usage, Refused, Shown}
 use Rattle.m11_dumper.specs.declared.stop.Stop.{Stop}
-use Rattle.m11_dumper.specs.declared.stop.Stop.TheVariants.{NotOpened, InFile, NotTape, InObject, InMap, NoSymbols, Write, NoMemory}
+use Rattle.m11_dumper.specs.declared.stop.Stop.TheVariants.{NotOpened, InFile, NotTape, SeveralFiles, InObject, InMap, NoSymbols, Write, NoMemory}
 
 -- the exit status for a fault in a file, the same as for a link or a run
 abbrev pub fault_status : DumpFault → ℕ
@@ -58,6 +61,7 @@ abbrev pub stop_status : Stop → ℕ
 stop_status (NotOpened path) = 3
 stop_status (InFile path placed) = fault_status placed.fault
 stop_status (NotTape path) = 4
+stop_status SeveralFiles = 2
 stop_status (InObject path fault) = link_status fault
 stop_status (InMap fault) = link_status fault
 stop_status (NoSymbols path fault) = map_status fault
@@ -88,6 +92,7 @@ abbrev pub is_write : Stop → Bool
 is_write (NotOpened path) = false
 is_write (InFile path placed) = is_write_fault placed.fault
 is_write (NotTape path) = false
+is_write SeveralFiles = false
 is_write (InObject path fault) = false
 is_write (InMap fault) = false
 is_write (NoSymbols path fault) = false
@@ -105,11 +110,23 @@ abbrev pub Says : Bool → Result (Unit {0}) Stop → OutputState → OutputStat
 Says unread (Ok done) err err' = err' ≡ err
 Says unread (Err stop) err err' = SaysUnless (unread && is_write stop) stop err err'
 
+-- whether several files are asked for as sources: an assembly of these would end at the first `.END`
+abbrev pub has_several : Form → List Bytes → Bool
+has_several Source (path ∷ other ∷ paths) = true
+has_several form paths = false
+
+-- the contents of the files were shown, or the result is the reason why not; but several files aren't shown as sources, and then no file is opened
+abbrev pub ShowsUnless : {I : Type 0} → Bool → (I → Option feed.Text) → (I → ℕ) → Look → ℕ → List Bytes → Option Files → List Bytes
+    → OutputState → OutputState → Result (Unit {0}) Stop → Type 0
+ShowsUnless true text faults look bottom names files paths out out' result = (result ≡ Err SeveralFiles) × (out' ≡ out)
+ShowsUnless false text faults look bottom names files paths out out' result =
+    ShowsNamed text faults look bottom names files paths out out' result
+
 -- the contents of the files, or the load map of objects, were shown; or the result is the reason why not
 abbrev pub Shows : {I : Type 0} → (I → Option feed.Text) → (I → ℕ) → Show → ℕ → List Bytes → Option Files → List Bytes
     → OutputState → OutputState → Result (Unit {0}) Stop → Type 0
 Shows text faults (Contents look) bottom names files paths out out' result =
-    ShowsNamed text faults look bottom names files paths out out' result
+    ShowsUnless (has_several look.form paths) text faults look bottom names files paths out out' result
 Shows text faults Map bottom names files paths out out' result = ShowsMap text faults bottom files paths out out' result
 
 -- the command line is refused or asks for help, which the parser's text says; or a value of it is refused; or the files at its paths, or

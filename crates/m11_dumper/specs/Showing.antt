@@ -21,7 +21,7 @@ use Rattle.m11_dumper.specs.declared.paths.Form.{Form}
 use Rattle.m11_dumper.specs.declared.paths.Form.TheVariants.{Dump, Source}
 use Rattle.m11_dumper.specs.declared.paths.Look.{Look}
 use Rattle.m11_dumper.specs.declared.stop.Stop.{Stop}
-use Rattle.m11_dumper.specs.declared.stop.Stop.TheVariants.{NotOpened, InFile, NotTape, InObject, InMap, NoSymbols, Write, NoMemory}
+use Rattle.m11_dumper.specs.declared.stop.Stop.TheVariants.{NotOpened, InFile, NotTape, SeveralFiles, InObject, InMap, NoSymbols, Write, NoMemory}
 use Rattle.m11_base_files.specs.Opens.{Files, Holds, Lacks}
 use Rattle.m11_base_writes.specs.States.{OutputState}
 use Rattle.m11_dump.specs.declared.view.View.{View}
@@ -58,6 +58,7 @@ ShowsDump view symbols kind text faults path out out' (Err NoMemory) = out' ≡ 
 ShowsDump view symbols kind text faults path out out' (Err (InObject named fault)) = ⊥
 ShowsDump view symbols kind text faults path out out' (Err (InMap fault)) = ⊥
 ShowsDump view symbols kind text faults path out out' (Err (NotTape named)) = ⊥
+ShowsDump view symbols kind text faults path out out' (Err SeveralFiles) = ⊥
 ShowsDump view symbols kind text faults path out out' (Err (NoSymbols named fault)) = ⊥
 
 -- the tape in this text was written as a source, with this result

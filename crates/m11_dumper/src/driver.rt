@@ -1,7 +1,7 @@
 //! The whole work of the program, for any type that opens files and any outputs.
 
 ghost use Rattle.std.specs.Prelude.{◌≡◌, map};
-ghost use Rattle.m11_dumper.specs.Outcome.{RefusesWords, Says, Shows, Yields, status_of};
+ghost use Rattle.m11_dumper.specs.Outcome.{RefusesWords, Says, Shows, Yields, has_several, status_of};
 ghost use Rattle.m11_dumper.specs.declared.stop.Outcome.{Outcome};
 ghost use Rattle.m11_cli_reports.specs.Reports.{words_status};
 ghost use Rattle.m11_cli_tasks.specs.Opened.{texts};
@@ -10,7 +10,7 @@ ghost use Rattle.m11_base_writes.specs.States.{output_of};
 use crate::lines::stop_line;
 use crate::mapping::show_map;
 use crate::names::show_named;
-use crate::paths::{Request, Show, plan};
+use crate::paths::{Form, Request, Show, plan};
 use crate::pipe::Readership;
 use crate::stop::{Outcome, Stop, status};
 use m11_base::Sink;
@@ -26,7 +26,7 @@ use std::convert::AsStr;
 /// them. If not everything could be shown, the reason is reported on `err`, with the path of the file at fault if there is one; but
 /// where nobody reads `out` any more, that isn't reported. Help goes to `out`, and a refused command line is reported on `err`. Nothing is
 /// reported if memory is refused for the command line or for the report.
-pub(crate) fn command<'a, F, O, E, S>(
+pub fn command<'a, F, O, E, S>(
     alloc: Global,
     files: &mut F,
     out: &mut O,
@@ -50,7 +50,7 @@ where
 
 /// Replaces `command` if the system can't supply the words of the command line: reports a word that isn't UTF-8, and returns the exit
 /// status. The status is 2 for such a word, and 5 if memory was refused, which isn't reported.
-pub(crate) fn command_without_words<E: Sink>(alloc: Global, fault: WordsFault, err: &mut E) -> u8
+pub fn command_without_words<E: Sink>(alloc: Global, fault: WordsFault, err: &mut E) -> u8
     ensures status { result ≡ words_status fault }
     ensures reported { RefusesWords fault (output_of E.Sink err.old) (output_of E.Sink err.new) }
 {
@@ -110,9 +110,17 @@ fn show<'a, F: Opens, O: Sink>(
     let names = request.names.as_slice();
     let paths = request.paths.as_slice();
     match request.show {
+        Show::Contents(look) if has_several(look.form, paths) => Err(Stop::SeveralFiles),
         Show::Contents(look) => show_named(alloc, files, look, request.bottom, names, paths, out),
         Show::Map => show_map(alloc, files, request.bottom, paths, out),
     }
+}
+
+// Whether several files are asked for as sources: an assembly of these would end at the first `.END`.
+fn has_several(form: Form, paths: &[&str]) -> bool
+    ensures { result ≡ has_several form (texts paths.now) }
+{
+    matches!((form, paths), (Form::Source, [_, _, ..]))
 }
 
 // Reports why showing stopped early, if it did; but not that a write failed, if nobody reads the output any more. Nothing is reported if

@@ -126,6 +126,7 @@ pub(crate) fn stop_line(alloc: Global, stop: &Stop<'_>) -> Result<Vec<u8>, Alloc
         Stop::NotOpened(path) => path_line(alloc, "?M11 OPEN ", path),
         Stop::InFile(path, placed) => in_file_line(alloc, path, *placed),
         Stop::NotTape(path) => path_line(alloc, "?M11 DUMP 21 NotTape OF ", path),
+        Stop::SeveralFiles => Vec::from_slice(alloc, b"?M11 DUMP 22 SeveralFiles\n"),
         Stop::InObject(path, fault) => object_line(alloc, path, *fault),
         Stop::InMap(fault) => map_line(alloc, *fault),
         Stop::NoSymbols(path, fault) => path_line(alloc, fault.line_head(), path),

@@ -15,7 +15,7 @@ use std::convert::AsStr;
 
 /// What the contents of files are shown as.
 #[derive(Clone, Copy)]
-pub(crate) enum Form {
+pub enum Form {
     /// Dumps, with the bytes of texts and of a tape's blocks in this view.
     Dump(View),
     /// Sources.
@@ -24,16 +24,16 @@ pub(crate) enum Form {
 
 /// How to show the contents of files.
 #[derive(Clone, Copy)]
-pub(crate) struct Look {
+pub struct Look {
     /// What they are shown as.
-    pub(crate) form: Form,
+    pub form: Form,
     /// The kind of file that each file is read as; if None, the beginning of the file decides.
-    pub(crate) kind: Option<Kind>,
+    pub kind: Option<Kind>,
 }
 
 /// What to show of files.
 #[derive(Clone, Copy)]
-pub(crate) enum Show {
+pub enum Show {
     /// The contents of each file.
     Contents(Look),
     /// The load map of objects.
@@ -42,15 +42,15 @@ pub(crate) enum Show {
 
 /// What a command line asks for.
 #[derive(Drop)]
-pub(crate) struct Request<'a> {
+pub struct Request<'a> {
     /// What to show.
-    pub(crate) show: Show,
+    pub show: Show,
     /// Where relocatable sections begin, in a load map and for the names in listings and objects: an even address, at most 0o157776.
-    pub(crate) bottom: u16,
+    pub bottom: u16,
     /// The paths of the files that name addresses, in order. A load map doesn't use them.
-    pub(crate) names: Vec<&'a str>,
+    pub names: Vec<&'a str>,
     /// The paths of the files to show, in order.
-    pub(crate) paths: Vec<&'a str>,
+    pub paths: Vec<&'a str>,
 }
 
 /// Reads a command line, whose first word is the program's name.

@@ -3,12 +3,12 @@
 ghost use Rattle.std.specs.Prelude.{◌≡◌, ◌≤◌, Bool, false, length, IfOk};
 ghost use Rattle.std.specs.Io.KnownBytes.{WriteAppends};
 
-use m11_base::{DeviceFault, Sink};
+use m11_base::{DeviceFault, MemorySink, Sink};
 use std::io;
 use std::io::{ErrorKind, Write};
 
 /// An output whose reader may go away, as that of a pipe does.
-pub(crate) trait Readership {
+pub trait Readership {
     // Whether a write failed since nobody reads the output any more.
     ghost unread: { Self → Bool };
 
@@ -20,7 +20,7 @@ pub(crate) trait Readership {
 /// A sink that passes bytes to a writer, and remembers whether a write failed since nobody reads them any more. A write is tried again
 /// when a signal interrupts it. The sink holds nothing back, so the failure of a write shows at the `put` that made it.
 #[derive(Drop)]
-pub(crate) struct PipeSink<W> {
+pub struct PipeSink<W> {
     writer: W,
     faults: u64,
     is_unread: bool,
@@ -28,7 +28,7 @@ pub(crate) struct PipeSink<W> {
 
 impl<W: Write> PipeSink<W> {
     /// A sink that writes to `writer`.
-    pub(crate) fn new(writer: W) -> PipeSink<W>
+    pub fn new(writer: W) -> PipeSink<W>
         ensures text { ⟦<PipeSink<W> as Sink>⟧.text result ≡ W.contents writer }
         ensures unfailed { ⟦<PipeSink<W> as Sink>⟧.faults result ≡ 0 }
         ensures read { ⟦<PipeSink<W> as Readership>⟧.unread result ≡ false }
@@ -46,6 +46,17 @@ impl<W: Write> Readership for PipeSink<W> {
 
     fn is_unread(&self) -> bool {
         self.is_unread
+    }
+}
+
+/// Bytes in memory stay there for whoever asks for them.
+impl Readership for MemorySink {
+    ghost use Rattle.std.specs.Prelude.{false};
+
+    ghost unread = { λ _. false };
+
+    fn is_unread(&self) -> bool {
+        false
     }
 }
 

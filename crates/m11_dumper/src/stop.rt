@@ -14,13 +14,15 @@ use std::alloc::AllocError;
 
 /// Why not all files were shown.
 #[derive(Clone, Copy)]
-pub(crate) enum Stop<'a> {
+pub enum Stop<'a> {
     /// The file at this path couldn't be opened.
     NotOpened(&'a str),
     /// The dump of the file at this path stopped at this fault.
     InFile(&'a str, LocatedFault),
     /// The file at this path isn't a tape, so it has no source.
     NotTape(&'a str),
+    /// Several files were to be written as sources.
+    SeveralFiles,
     /// The objects have no load map: a link of them is refused with this fault, which is in the object at this path.
     InObject(&'a str, LinkFault),
     /// The objects have no load map: a link is refused with this fault, which is in no single object, or memory was refused.
@@ -43,7 +45,7 @@ impl From<AllocError> for Stop<'_> {
 
 /// The outcome of a command line: it was refused, or its files were shown as far as that was possible.
 #[derive(Drop)]
-pub(crate) enum Outcome<'a> {
+pub enum Outcome<'a> {
     /// The parser refuses the command line, or help was asked for, or memory was refused while it was read.
     Usage(UsageFault),
     /// A value of the command line is refused, which was reported.
@@ -100,6 +102,7 @@ fn stop_status(stop: &Stop<'_>) -> u8
         Stop::InFile(_, placed) => fault_status(placed.fault),
         Stop::InObject(_, fault) | Stop::InMap(fault) => link_status(*fault),
         Stop::NotTape(_) => 4,
+        Stop::SeveralFiles => 2,
         Stop::NoSymbols(_, fault) => map_status(*fault),
         Stop::NoMemory => 5,
     }

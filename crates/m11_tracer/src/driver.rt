@@ -29,7 +29,7 @@ use std::convert::AsStr;
 ///
 /// Help goes to `out`. A refused command line, a file that can't be opened or created or gives no names, the trace of the run and the
 /// line for a fault go to `err`; but the trace lines go to their file, if the command line has one. The program on the tape reads `input`, and prints to `out` one byte at a time.
-pub(crate) fn command<'a, F, I, O, E, S>(
+pub fn command<'a, F, I, O, E, S>(
     alloc: Global,
     files: &mut F,
     input: &mut I,

@@ -6,12 +6,9 @@ use Rattle.m11_base.specs.Feed.{Ends, Text}
 use Rattle.m11_base_files.specs.MemoryFiles.{files_of}
 use Rattle.m11_base_files.specs.Opens.{CreatedFile, Files}
 use Rattle.m11_base_files.specs.declared.memory_files.MemoryFile.{MemoryFile}
-use Rattle.m11_cli.specs.Driver.{Obeys}
-use Rattle.m11_cli.specs.Outcome.{status_of}
-use Rattle.m11_cli.specs.declared.outcome.Outcome.{Outcome}
 use Rattle.m11_cli_reports.specs.Streams.{Store, Streams, store}
 use Rattle.m11_cpu_machine.specs.Dialogue.{input_of}
-use Rattle.m11_web.specs.Answers.{CarriedOut, IsAnswer, before}
+use Rattle.m11_web.specs.Answers.{CarriedOut, Command, IsAnswer, before}
 
 -- the streams before a command, part by part
 abbrev pub streams_of : Option Text → ℕ → Option Bytes → ℕ → ℕ → Option Bytes → ℕ → ℕ → Streams
@@ -27,16 +24,15 @@ pub streams_so : (input : Bytes) (text : Option Text) (faults : ℕ) (p : Option
     → streams_of text faults p pf 0 r rf 0 ≡ before input
 streams_so input text faults p pf r rf et ef ep epf er erf = rw (et, ef, ep, epf, er, erf)
 
-pub carried : (words : List Bytes) (files : List MemoryFile) (input : Bytes) (outcome : Outcome) (known : Option Files) (refusals : ℕ)
+pub carried : (Obeyed : Command) (words : List Bytes) (files : List MemoryFile) (input : Bytes) (known : Option Files) (refusals : ℕ)
     (old : Streams) (new : Store) (after : Streams) (status : ℕ) (printed reported : Bytes) (made : List CreatedFile) (answer : Bytes)
-    → known ≡ Some (files_of files []) → refusals ≡ 0 → old ≡ before input
-    → Obeys words outcome (store known refusals) new old after → status ≡ status_of outcome
+    → known ≡ Some (files_of files []) → refusals ≡ 0 → old ≡ before input → Obeyed words status (store known refusals) new old after
     → after.printed.text ≡ Some printed → after.reported.text ≡ Some reported
     → option_map (λ files. files.made) new.files ≡ Some made → IsAnswer status printed reported made answer
-    → CarriedOut words files input answer
-carried words files input outcome known refusals old new after status printed reported made answer ek er eo obeys es hp hr hm is =
-    let P : Option Files → ℕ → Streams → Type 0 = λ k r o. Obeys words outcome (store k r) new o after in
+    → CarriedOut Obeyed words files input answer
+carried Obeyed words files input known refusals old new after status printed reported made answer ek er eo obeyed hp hr hm is =
+    let P : Option Files → ℕ → Streams → Type 0 = λ k r o. Obeyed words status (store k r) new o after in
     let so : P (Some (files_of files [])) 0 (before input) =
     subst (λ (o : Streams). P (Some (files_of files [])) 0 o) eo (subst (λ (r : ℕ). P (Some (files_of files [])) r old) er
-    (subst (λ (k : Option Files). P k refusals old) ek obeys)) in
-    (outcome, new, after, printed, reported, made, so, hp, hr, hm, subst (λ (n : ℕ). IsAnswer n printed reported made answer) es is)
+    (subst (λ (k : Option Files). P k refusals old) ek obeyed)) in
+    (status, new, after, printed, reported, made, so, hp, hr, hm, is)

@@ -10,8 +10,9 @@ mod requests;
 
 // A whole command over files in memory.
 mod commands;
+mod programs;
 
-pub use commands::m11_command;
+pub use commands::{m11_command, m11_dump, m11_trace};
 
 // A machine whose state belongs to the caller: it gets a tape, and makes some steps at a time.
 mod running;

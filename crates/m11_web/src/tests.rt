@@ -1,6 +1,6 @@
 //! The calls on their way, since no other crate can use a static library. The suite in the module, under Node, has all else.
 
-use crate::commands::m11_command;
+use crate::commands::{m11_command, m11_dump, m11_trace};
 use crate::running::{Told, m11_go_on, m11_load};
 use std::process::Abort;
 use std::test::Fail;
@@ -18,6 +18,27 @@ fn a_command_is_answered(rt: HostRuntime) -> Result<(), Fail> {
     let length = m11_command(rt.alloc(), REQUEST, answer.as_mut_slice());
     assert!(rt; FRONT.len() < length && length <= 4_096);
     assert!(rt; answer.as_slice().starts_with(FRONT));
+    Ok(())
+}
+
+// `m11-dump T` and `m11-trace T`, with the tape T: `INC R1` and `HALT` at octal 1000.
+const TO_DUMP: &[u8] = b"\x11\0\0\0\x08\0\0\0m11-dump\x01\0\0\0T\x1b\0\0\0\x01\0\0\0T\x12\0\0\0\
+\x01\x00\x0a\x00\x00\x02\x81\x0a\x00\x00\x68\x01\x00\x06\x00\x00\x02\xf7\0\0\0\0";
+
+const TO_TRACE: &[u8] = b"\x12\0\0\0\x09\0\0\0m11-trace\x01\0\0\0T\x1b\0\0\0\x01\0\0\0T\x12\0\0\0\
+\x01\x00\x0a\x00\x00\x02\x81\x0a\x00\x00\x68\x01\x00\x06\x00\x00\x02\xf7\0\0\0\0";
+
+#[test]
+fn views_are_answered(rt: HostRuntime) -> Result<(), Fail> {
+    let mut answer = vec![in rt.alloc(); 0u8; 4_096]?;
+    let length = m11_dump(rt.alloc(), TO_DUMP, answer.as_mut_slice());
+    assert!(rt; 16 < length && length <= 4_096);
+    assert!(rt; answer.as_slice().starts_with(b"\x01\0\0\0\0"));
+    assert!(rt; answer.as_slice()[9..].starts_with(b"TAPE T\n"));
+    let length = m11_trace(rt.alloc(), TO_TRACE, answer.as_mut_slice());
+    assert!(rt; 20 < length && length <= 4_096);
+    assert!(rt; answer.as_slice().starts_with(b"\x01\0\0\0\0\0\0\0\0"));
+    assert!(rt; answer.as_slice()[13..].starts_with(b"1\t001000\tINC    R1\tR1 000001\n"));
     Ok(())
 }
 

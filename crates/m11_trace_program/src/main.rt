@@ -1,24 +1,11 @@
-//! `m11-trace`: runs a tape with a line for each step. This crate reads the command line and opens the files; `m11_trace` makes the
-//! run and its trace.
+//! `m11-trace`: runs a tape with a line for each step. `m11_tracer` does all of its work.
 #![tactic(auto)]
 
-// The command line, and the run that it asks for.
-mod application;
-mod places;
-mod task;
-
-// The outcome, its line and its exit status, and the line for a file that gives no names.
-mod outcome;
-mod reports;
-
-// The whole work of the program.
-mod driver;
-
-use crate::driver::command;
 use m11_base::{ReaderFeed, WriterSink};
 use m11_base_files::SystemFiles;
 use m11_cli_reports::command_without_words;
 use m11_cli_tasks::words;
+use m11_tracer::command;
 use std::process::ExitCode;
 
 fn main(rt: HostRuntime) -> ExitCode {

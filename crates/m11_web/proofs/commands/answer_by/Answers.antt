@@ -1,4 +1,4 @@
-use Rattle.m11_web.proofs.commands.m11_command.Goals as goal
+use Rattle.m11_web.proofs.commands.answer_by.Goals as goal
 
 pub returns-in-Ok-clause-answers : goal.returns-in-Ok-clause-answers
 returns-in-Ok-clause-answers c = λ some.
