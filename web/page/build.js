@@ -1,7 +1,7 @@
 // Assembling and linking: the calls for the files as they are, and what came of them.
 
 import { OBJECT, TAPE, stem } from './files.js';
-import { nextParts, Places, readListing, readLoadMap, readMap } from './listing.js';
+import { Places, readListing, readLoadMap } from './listing.js';
 import { lineCount, textOf, utf8 } from './text.js';
 import { faultWords, flagWords, linkWords } from './words.js';
 
@@ -191,8 +191,7 @@ function whereNamed(plan, name) {
 // The places of all lines and names. A program runs without them too.
 function named(engine, built, plan, options) {
   try {
-    if (engine.hasViews) placeByLoadMap(engine, built, plan, options);
-    else placeByMap(engine, built, plan);
+    placeByLoadMap(engine, built, plan, options);
   } catch (error) {
     built.messages.push({ text: `There are no names of addresses: ${error.message}` });
   }
@@ -215,17 +214,6 @@ function placeByLoadMap(engine, built, plan, options) {
     at += size;
     if (!listing || !parts.every((part, number) => part.section === listing.sections[number]?.name)) continue;
     built.places.addModule(listing, parts.map(part => part.address), number => lineOf(module, number));
-  }
-  built.places.addNames(map.globals);
-}
-
-// By the map of the link and the listings: up to the first object from elsewhere, whose sizes neither of them has.
-function placeByMap(engine, built, plan) {
-  const map = readMap(textOf(built.outputs.get(built.mapName)));
-  for (const module of plan.modules) {
-    const listing = module.sources.length ? wholeListing(engine, module) : null;
-    if (!listing) break;
-    built.places.addModule(listing, nextParts(map, listing), number => lineOf(module, number));
   }
   built.places.addNames(map.globals);
 }

@@ -62,10 +62,9 @@ export class Debugger {
     return rows.sort((one, other) => one.address - other.address);
   }
 
-  // What m11-dump prints; nothing without it, or without memory for it.
+  // What m11-dump prints; nothing without memory for it.
   view(words, files) {
     try {
-      if (!this.engine.hasViews) return '';
       return textOf(this.engine.dump(words, files).output);
     } catch {
       return '';
@@ -180,9 +179,9 @@ export class Debugger {
       if (!byRow.has(number)) return { words: '', text: 'no memory here' };
       const words = wordsOf(contents[number]);
       const lines = byRow.get(number) ?? [];
-      const isData = !isCode(row) || lines.length > 1;
+      const isData = !isCode(row) || lines.length !== 1;
       const data = `.WORD  ${words.map(one => one.toString(8)).join(',')}${row.size > 6 ? ' …' : ''}`;
-      return { words: words.map(one => octal(one)).join(' '), text: isData ? data : lines[0]?.text ?? statementOf(row.text ?? '') };
+      return { words: words.map(one => octal(one)).join(' '), text: isData ? data : lines[0].text };
     });
   }
 
@@ -314,11 +313,6 @@ export class Debugger {
     }
     this.page.goTo(Number(text));
   }
-}
-
-// The statement of a line of a source, as it is shown where nothing disassembles.
-function statementOf(text) {
-  return text.replace(/^\s*(?:[A-Z0-9$.]+::?\s*)*/i, '').replace(/\s*;.*$/, '').replace(/^(\S+)\s+/, (_, operator) => operator.padEnd(7));
 }
 
 function wordsOf(bytes) {

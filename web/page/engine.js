@@ -71,11 +71,6 @@ export class Engine {
     }
   }
 
-  /** Whether the module has m11-dump and m11-trace. Without them the page shows less. */
-  get hasViews() {
-    return Boolean(this.module?.calls.m11_dump && this.module.calls.m11_trace);
-  }
-
   run(name, words, files, input) {
     const pairs = files.map(file => [file.name, file.bytes]);
     const answer = this.called(module => module.run(name, words, pairs, input));

@@ -104,33 +104,6 @@ export function readLoadMap(text) {
   return { parts, globals };
 }
 
-/** The map of a link: its sections, each with base and attributes, and its globals. */
-export function readMap(text) {
-  const [head, tail = ''] = text.split('\nGLOBALS\n');
-  const sections = new Map();
-  for (const line of head.split('\n')) {
-    const found = /^(.{6}) ([0-7]{6}) [0-7]{6} (\S+)$/.exec(line);
-    if (found) sections.set(found[1].trim(), { base: parseInt(found[2], 8), isShared: /\b(?:ABS|OVR)\b/.test(found[3]), used: 0 });
-  }
-  const globals = [];
-  for (const line of tail.split('\nUNDEFINED')[0].split('\n')) {
-    const found = /^(\S+) +([0-7]{6})/.exec(line);
-    if (found) globals.push({ name: found[1], value: parseInt(found[2], 8) });
-  }
-  return { sections, globals };
-}
-
-/** Where the parts of the next module of a link lie: one after another, each of an even size, or all at the base of what they share. */
-export function nextParts(map, listing) {
-  return listing.sections.map(({ name, size }) => {
-    const section = map.sections.get(name);
-    if (!section) return 0;
-    const address = section.base + section.used;
-    if (!section.isShared) section.used += size + (size & 1);
-    return address;
-  });
-}
-
 /** Whether a line stores instructions, as far as its text tells. */
 export function isCode(line) {
   return !line.areBytes && !/\.(?:WORD|RAD50|LIMIT)\b/i.test(line.text ?? '');

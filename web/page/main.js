@@ -269,7 +269,6 @@ async function begin() {
   addEventListener('hashchange', () => { stored = storage.isPaused ? stored : record(page); followLink(page, storage, own); });
   await followLink(page, storage, own);
   page.drawControls();
-  document.body.dataset.views = engine.hasViews ? 'yes' : 'no';
   document.body.dataset.ready = 'yes';
   performance.mark('ready');
 }

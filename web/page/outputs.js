@@ -4,7 +4,7 @@ import { download } from './archive.js';
 import { byId, make, tabKeys } from './elements.js';
 import { OBJECT } from './files.js';
 import { traceLines } from './search.js';
-import { octal, textOf } from './text.js';
+import { textOf } from './text.js';
 
 /** A text of more characters is shown to here; the rest is in the file. */
 const MOST_SHOWN = 2000000;
@@ -18,7 +18,6 @@ export class Outputs {
     this.built = null;
     this.chosen = new Map();
     this.panel = 'run';
-    byId('tab-trace').hidden = !engine.hasViews;
     tabKeys(byId('panels'));
     for (const tab of byId('panels').children) tab.addEventListener('click', () => this.show(tab.dataset.panel));
     byId('which').addEventListener('change', () => {
@@ -97,7 +96,6 @@ export class Outputs {
   }
 
   dump(given, name, bytes, symbols) {
-    if (!this.engine.hasViews) return octalLines(bytes);
     try {
       const words = ['m11-dump', ...given, ...symbols.map(file => `--symbols=${file.name}`), '--', name];
       const answer = this.engine.dump(words, [...symbols, { name, bytes }]);
@@ -126,15 +124,6 @@ export class Outputs {
     if (this.panel === 'trace' || this.panel === 'dump') download(`${this.name}.TXT`, new TextEncoder().encode(byId('shown').textContent));
     else download(this.name, this.bytesOf(this.name));
   }
-}
-
-// Bytes in octal, for want of m11-dump.
-function octalLines(bytes) {
-  const lines = [];
-  for (let at = 0; at < bytes.length; at += 16) {
-    lines.push(`${octal(at)} ${Array.from(bytes.subarray(at, at + 16), byte => octal(byte, 3)).join(' ')}`);
-  }
-  return lines.join('\n');
 }
 
 // The fields of a line of a trace below each other.

@@ -3,9 +3,9 @@
 import { psw, register, word } from './engine.js';
 import { textOf } from './text.js';
 
-/** Runs up to this many steps are searched step by step, with the lines of m11-trace; longer ones by halving. */
+/** Runs up to this many steps are searched by the lines of m11-trace. */
 const MOST_TRACED = 2000000;
-/** Without traces, so many of the last steps are looked at one by one; each takes about a millisecond. */
+/** Of longer runs so many of the last steps are looked at one by one; each takes about a millisecond. */
 const MOST_STEPPED = 3000;
 /** How many steps of a trace are read at once. */
 const WINDOWS = [1000, 20000, 100000];
@@ -29,8 +29,9 @@ export const STATUS = { name: 'PSW', field: /\tPSW /, value: psw };
 export async function backToChange(machine, thing, progress) {
   const begun = machine.steps;
   const after = thing.value(machine.state);
-  const canTrace = canBeTraced(machine);
-  const found = canTrace ? await traced(machine, thing, progress) : await stepped(machine, thing, progress) ?? await halved(machine, thing, progress);
+  const found = isSearchWhole(machine)
+    ? await traced(machine, thing, progress)
+    : await stepped(machine, thing, progress) ?? await halved(machine, thing, progress);
   if (!found) {
     if (machine.steps !== begun) await machine.goTo(begun);
     return null;
@@ -39,13 +40,9 @@ export async function backToChange(machine, thing, progress) {
   return { ...found, before: thing.value(machine.state), after: found.after ?? after };
 }
 
-function canBeTraced(machine) {
-  return machine.engine.hasViews && machine.steps <= MOST_TRACED;
-}
-
 /** Whether each step is looked at, so that no change is missed. */
 export function isSearchWhole(machine) {
-  return canBeTraced(machine) || machine.steps <= MOST_STEPPED;
+  return machine.steps <= MOST_TRACED;
 }
 
 // Looks through the lines of the steps, the last ones first.

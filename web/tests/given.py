@@ -94,11 +94,6 @@ def built(page):
     page.wait("document.querySelector('#messages-list').textContent.includes('is linked')")
 
 
-def has_views(page):
-    """Whether the module of the page has m11-dump and m11-trace."""
-    return page.see("document.body.dataset.views") == "yes"
-
-
 def screen(page):
     return page.see(SCREEN)
 

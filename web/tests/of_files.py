@@ -6,7 +6,7 @@ import zipfile
 
 import browser
 from browser import CONTROL
-from given import LOOP, MARKUP, STATE, arrived, built, check, has_views, same, source, test, value
+from given import LOOP, MARKUP, STATE, arrived, built, check, same, source, test, value
 
 
 @test
@@ -79,7 +79,7 @@ def downloads_are_whole(given):
     with zipfile.ZipFile(path) as archive:
         same(archive.testzip(), None)
         same(sorted(archive.namelist()), sorted(["GUESS.MAC", "CONSOL.MAC", "GUESS.OBJ", "GUESS.LST", "CONSOL.OBJ", "CONSOL.LST", "GUESS.TAP", "GUESS.MAP",
-                                                 *(["GUESS.LOAD.MAP"] if has_views(page) else [])]))
+                                                 "GUESS.LOAD.MAP"]))
         same(archive.read("GUESS.MAC").decode(), value(page))
         tape = archive.read("GUESS.TAP")
         archive.extractall(os.path.join(given.folder, "all"))
@@ -95,7 +95,7 @@ def downloads_are_whole(given):
     folder = os.path.join(given.folder, "all")
     page.give_files("#pick-files", [os.path.join(folder, name) for name in os.listdir(folder) if not name.endswith(".MAC")])
     page.press("#files")
-    page.wait(f"document.querySelectorAll('.file').length === {9 if has_views(page) else 8}")
+    page.wait(f"document.querySelectorAll('.file').length === 9")
     page.press("#files-dialog [data-close]")
     built(page)
     check("GUESS.OBJ is left out" in page.text("#messages-list"), page.text("#messages-list"))

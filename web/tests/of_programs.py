@@ -2,7 +2,7 @@
 import re
 
 from browser import CONTROL
-from given import GAME, SCREEN, STATE, alone, built, check, example, has_views, same, screen, selected, source, test, value
+from given import GAME, SCREEN, STATE, alone, built, check, example, same, screen, selected, source, test, value
 
 
 @test
@@ -55,9 +55,7 @@ def an_undefined_global_leads_to_its_use(given):
 def the_views_show_what_was_made(given):
     page = given.open()
     built(page)
-    # Without m11-dump objects and tapes are shown as octal bytes.
-    dump, tape = ("MODULE    GUESS", "JSR    PC,PUTS\t;START+10") if has_views(page) else ("000000 001 000", "000000 001 000 046 000 000 002")
-    for panel, words in [("listing", "SYMBOL TABLE"), ("map", "GETLN  001676 CONSOL"), ("dump", dump), ("tape", tape)]:
+    for panel, words in [("listing", "SYMBOL TABLE"), ("map", "GETLN  001676 CONSOL"), ("dump", "MODULE    GUESS"), ("tape", "JSR    PC,PUTS\t;START+10")]:
         page.press(f"#tab-{panel}")
         check(words in page.text("#shown"), f"{words} isn't in {panel}")
     page.press("#tab-listing")
@@ -67,9 +65,6 @@ def the_views_show_what_was_made(given):
     page.press("#tab-run")
     page.key("F8")
     page.wait(f"{STATE}.startsWith('WAITS')")
-    if not has_views(page):
-        same(page.see("document.querySelector('#tab-trace').hidden"), True)
-        return
     page.press("#tab-trace")
     check(re.search(r"1  001000 START +MOV +#1676,SP +SP 001676", page.text("#shown")), page.text("#shown")[:300])
 
@@ -127,8 +122,8 @@ def objects_and_tapes_run_without_sources(given):
     page.wait("document.querySelector('#messages-list').textContent.includes('ECHO.TAP is a tape')")
     page.key("F8")
     page.wait(f"{STATE}.startsWith('WAITS')")
-    same(page.text("#code-lines .next .words"), "105737 177560" if has_views(page) else "105737")
-    same(page.text("#code-lines .next .instruction"), "TSTB   @#177560" if has_views(page) else "")
+    same(page.text("#code-lines .next .words"), "105737 177560")
+    same(page.text("#code-lines .next .instruction"), "TSTB   @#177560")
     page.give_files("#pick-files", [given.file("BAD.OBJ", b"\1\0nonsense")])
     page.press("#files")
     page.wait("document.querySelector('#files-list').textContent.includes('BAD.OBJ')")

@@ -6,32 +6,12 @@ import sys
 import time
 
 from browser import CONTROL, SHIFT
-from given import LOOP, SCREEN, STATE, TOP, Skipped, arrived, alone, built, check, example, has_views, same, screen, test, value
-
-
-# A module without m11-dump and m11-trace, whatever the page has.
-WITHOUT_VIEWS = """const whole = WebAssembly.instantiate;
-    WebAssembly.instantiate = async (...given) => {
-        const { exports } = await whole(...given), left = { ...exports };
-        delete left.m11_dump;
-        delete left.m11_trace;
-        return { exports: left };
-    };"""
+from given import LOOP, SCREEN, STATE, TOP, Skipped, arrived, alone, built, check, example, same, screen, test, value
 
 
 @test
 def goes_back_to_a_mistake(given):
-    goes_back(given.open())
-
-
-@test
-def goes_back_without_views(given):
-    page = given.open(before=WITHOUT_VIEWS)
-    same(has_views(page), False)
-    goes_back(page)
-
-
-def goes_back(page):
+    page = given.open()
     example(page, "going back")
     page.key("F8")
     page.wait(f"{STATE} === 'HALT AFTER 19 STEPS'")
@@ -148,15 +128,7 @@ def steps_there_and_back(given):
 
 @test
 def stops_at_breakpoints(given):
-    stops(given.open())
-
-
-@test
-def stops_at_breakpoints_without_views(given):
-    stops(given.open(before=WITHOUT_VIEWS))
-
-
-def stops(page):
+    page = given.open()
     built(page)
     # A press on the number of a line: INC TRIES.
     line = 1 + value(page).split("\n").index("\tINC\tTRIES")

@@ -2,7 +2,7 @@
 import json
 
 from browser import CONTROL, SHIFT
-from given import HOSTILE_NAME, MARKUP, SCREEN, STATE, built, check, has_views, same, screen, selected, source, test, value
+from given import HOSTILE_NAME, MARKUP, SCREEN, STATE, built, check, same, screen, selected, source, test, value
 
 
 @test
@@ -58,7 +58,7 @@ def all_is_reached_by_keys(given):
     page.key("ArrowRight")
     same(page.see("document.activeElement.id"), "tab-listing")
     page.key("End")
-    same(page.see("document.activeElement.id"), "tab-trace" if has_views(page) else "tab-tape")
+    same(page.see("document.activeElement.id"), "tab-trace")
 
 
 @test
