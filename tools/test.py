@@ -33,11 +33,11 @@ import pasm  # noqa: E402
 from adapting.main import adapt  # noqa: E402
 from adapting.names import INSTRUCTIONS  # noqa: E402
 from tests import (building, checking, coming, debugging, definitions, disassembly, examples, flags, floating, fuzzing, images,  # noqa: E402
-                   libraries, mistakes, monitor, ntype, peers, prompts, proving, refusals, releases, scripts, strict, tape_sources,
+                   libraries, mistakes, monitor, ntype, pages, peers, prompts, proving, refusals, releases, scripts, strict, tape_sources,
                    texts)
 
 MODULES = (scripts, proving, checking, releases, examples, coming, disassembly, mistakes, refusals, texts, floating, ntype, flags, libraries, building,
-           strict, monitor, images, definitions, debugging, prompts, fuzzing, peers, tape_sources)
+           strict, monitor, images, definitions, debugging, prompts, fuzzing, peers, tape_sources, pages)
 PARTS = ("words", "file", "source", "after", "map", "reports", "status", "flagged", "equal", "messages", "turned")
 
 
