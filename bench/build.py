@@ -1,4 +1,4 @@
-"""Builds a program that uses crates of the repository, for the programs of this folder."""
+"""Builds a program with the unfolder, for bench/unfold."""
 
 import shutil
 import subprocess
@@ -10,7 +10,7 @@ TOP = Path(__file__).resolve().parent.parent
 # The crates that a program with the unfolder names.
 UNFOLDER = ["m11_base", "m11_scan", "m11_unfold", "m11_unfold_rules", "m11_scan_expressions"]
 
-# The files that each program with it has, and their places in its crate.
+# Files of such a program, and their places in its crate.
 SHARED = {"unfolding/unknown.txt": "src/unknown.rt", "unfolding/Known.txt": "specs/Known.antt"}
 
 
@@ -27,26 +27,21 @@ def crates_below(names):
     return [line for line in listed if line.split(":")[0] in found]
 
 
-def built_over(folder, names, files, specs):
-    """The program of these files of this folder, built in another folder as a crate with the name unfold, which names these crates and has
-    its definitions in these modules."""
+def built(folder, files):
+    """The program of these files of this folder and of the shared ones, built in another folder as a crate with the name unfold, which has the
+    unfolder."""
     crate = folder / "crates/unfold"
-    for name, path in files.items():
+    for name, path in (SHARED | files).items():
         (crate / path).parent.mkdir(parents=True, exist_ok=True)
         shutil.copy(TOP / "bench" / name, crate / path)
-    for part, modules in (("specs", specs), ("proofs", [])):
+    for part, modules in (("specs", ["Known"]), ("proofs", [])):
         (crate / part).mkdir(exist_ok=True)
         (crate / part / "Lib.antt").write_text("".join(f"pub mod {module}\n" for module in modules), encoding="utf-8")
     shutil.copy(TOP / "HANDLES", folder)
-    kept = crates_below(names)
-    (folder / "crates.txt").write_text("\n".join([*kept, f"unfold: {' '.join(names)}"]) + "\n", encoding="utf-8")
+    kept = crates_below(UNFOLDER)
+    (folder / "crates.txt").write_text("\n".join([*kept, f"unfold: {' '.join(UNFOLDER)}"]) + "\n", encoding="utf-8")
     for line in kept:
         name = line.split(":")[0]
         shutil.copytree(TOP / "crates" / name, folder / "crates" / name)
     subprocess.run(["rt", "run"], cwd=crate, stdin=subprocess.DEVNULL, stdout=sys.stderr, check=True)
     return crate / "out/unfold"
-
-
-def built(folder, files):
-    """The program of these files of this folder and of the shared ones, with the unfolder, built in a folder."""
-    return built_over(folder, UNFOLDER, SHARED | files, ["Known"])

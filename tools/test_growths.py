@@ -1,7 +1,7 @@
 #!/usr/bin/env python3
 """Refuses each growth of memory of a built program in turn: tools/test_growths.py PROGRAM
 
-The library bench/refusing/refuse.c, which cc compiles, is loaded before the C library and refuses one call for memory, by its number, counted
+The library tools/tests/refuse.c, which cc compiles, is loaded before the C library and refuses one call for memory, by its number, counted
 from the beginning of main. Each command below runs with the calls 1, 2 and so on refused, one in each run and each in a new folder, until a run
 makes fewer calls: that run must write the whole output of the command. Each run before it must end with status 5. The bytes that it wrote before
 the refusal are a beginning of each output, and after the refusal it reports only a line of NoMemory: that of USAGE while words are read and no
@@ -25,10 +25,9 @@ from pathlib import Path
 
 sys.dont_write_bytecode = True
 ROOT = Path(__file__).resolve().parent.parent
-sys.path[:0] = [str(ROOT / "bench"), str(ROOT / "bench" / "reading")]
+sys.path.insert(0, str(ROOT / "bench" / "reading"))
 
 import pasm  # noqa: E402
-from calls import library_in  # noqa: E402
 
 SECONDS = 60
 USAGE = b"?M11 USAGE 90 NoMemory\n"
@@ -177,6 +176,13 @@ def refuse_each(program, library, command):
     return counts, wrong
 
 
+def library_in(folder):
+    """The library that refuses a call, compiled in a folder."""
+    library = folder / "refuse.so"
+    subprocess.run(["cc", "-O2", "-shared", "-fPIC", "-o", library, ROOT / "tools/tests/refuse.c"], check=True)
+    return library
+
+
 def main(words):
     """Refuses the calls of all commands."""
     if len(words) != 1 or words[0] in ("-h", "--help"):
@@ -185,7 +191,7 @@ def main(words):
     program, read_case = os.path.abspath(words[0]), reader_of_cases()
     commands = [of_case(read_case, *row) for row in OF_CASES] + [of_source(*row) for row in OF_SOURCES]
     if shutil.which("cc") is None:
-        print("growths: skipped: there is no cc, which has to compile bench/refusing/refuse.c")
+        print("growths: skipped: there is no cc, which has to compile tools/tests/refuse.c")
         print(f"0 passed, 0 failed, {len(commands)} skipped")
         return 0
     failed = 0
