@@ -22,7 +22,7 @@ words_bytes (word ∷ words) = omega (arith, words_bytes words)
 state_length : (m : Machine) → length m.registers ≡ 8 → length (state_of m) ≡ 28 + length m.memory
 state_length m e =
     let rest : Bytes = status_bytes m.status ++ (receiver_bytes m.receiver
-        ++ (bit m.transmitter.is_enabled ∷ lasting_number m.stopped ∷ m.memory)) in
+    ++ (bit m.transmitter.is_enabled ∷ lasting_number m.stopped ∷ m.memory)) in
     omega (arith, length-append (bytes_of m.registers) rest, words_bytes m.registers, e)
 
 -- bytes whose number no state has

@@ -12,9 +12,9 @@ returns-in-len12-up-clause-parts c =
 
 pub returns-in_default-clause-few : goal.returns-in_default-clause-few
 returns-in_default-clause-few c = λ none. omega (
-      arith,
-      ap length c.in_ok-registers.ensures.parts,
-      length-append (bytes_of c.in_ok-registers.registers) c.in_ok-registers.rest.now,
-      words_bytes c.in_ok-registers.registers,
-      c.in_ok-registers.ensures.eight,
-    )
+  arith,
+  ap length c.in_ok-registers.ensures.parts,
+  length-append (bytes_of c.in_ok-registers.registers) c.in_ok-registers.rest.now,
+  words_bytes c.in_ok-registers.registers,
+  c.in_ok-registers.ensures.eight,
+)
