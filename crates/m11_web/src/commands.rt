@@ -74,12 +74,12 @@ fn answered(alloc: Global, program: Program, request: &[u8]) -> Result<Vec<u8>, 
 }
 
 // The answer to a command line with these files and this input. Error: `NoMemory`.
-fn carried_out(
+fn carried_out<'a>(
     alloc: Global,
     program: Program,
-    words: &[String],
-    files: &[MemoryFile],
-    typed: &[u8],
+    words: &'a [String],
+    files: &'a [MemoryFile],
+    typed: &'a [u8],
 ) -> Result<Vec<u8>, Refusal>
     ensures { IfOk result (λ answer. CarriedOut (obeys ⟦<MemoryFeed<'static> as Feed>⟧.text ⟦<MemoryFeed<'static> as Feed>⟧.faults program)
         (map string_bytes words.now) files.now typed.now answer.items) }
