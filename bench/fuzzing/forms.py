@@ -1,4 +1,4 @@
-"""What commands may leave and say, as docs/COMMANDS.md and the help of each script have it: a form of standard error for each status."""
+"""What commands may leave and say, as docs/COMMANDS.md, docs/VIEWS.md and the help of each script have it: a form of standard error for each status."""
 import re
 
 PATH = r"[\s\S]*"

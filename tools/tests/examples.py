@@ -19,7 +19,10 @@ SYNOPSIS = ("...", "< MESSAGES")
 OTHERS = {"./m11-dump": "M11_DUMP", "./m11-trace": "M11_TRACE"}
 NEEDS = {**{name: [variable] for name, variable in OTHERS.items()}, "./m11-debug": list(OTHERS.values())}
 # The pages with commands, and the heading of the part that is read; None: the whole page.
-PAGES = {"README.md": "## Half a minute with it", "docs/COMMANDS.md": "## What to call", "tools/README.md": "## How to use them"}
+PAGES = {"README.md": "## Half a minute with it", "docs/COMMANDS.md": "## What to call", "docs/VIEWS.md": "## What to call",
+         "tools/README.md": "## How to use them"}
+# The pages whose parts have tables of calls, each after a block of calls that the tables need.
+WITH_TABLES = ("docs/COMMANDS.md", "docs/VIEWS.md")
 
 M11 = r'''#!/bin/sh
 if [ -x "${0%/*}/program" ]; then exec "${0%/*}/program" "$@"; fi
@@ -173,35 +176,43 @@ def answers_of(said):
     return re.split(r"^\d+> .*\n", said, flags=re.M)[1:]
 
 
-def check_calls_of_the_table():
-    """Each call in the tables of docs/COMMANDS.md prints what its row shows; the commands of m11-debug do so in one session, in their order."""
-    page, found, count, commands = get(os.path.join(TOP, "docs", "COMMANDS.md")), [], 0, []
-    session = re.search(r"^In a session of `([^`]+)`", page, re.M)[1]
+def missing_answers(copy, session, commands):
+    """What the rows of a session of m11-debug show and their commands don't print, in one session, in their order."""
+    lines = [line for calls, _ in commands for line in calls]
+    status, said = copy.run([f"{session} -x /dev/stdin <<'END'", *lines, "END"], "")
+    answers, found = iter(answers_of(said[0])), []
+    for calls, texts in commands:
+        found += missing_texts(calls, texts, "".join(next(answers, "") for _ in calls))
+    return found + ([f"{session}\n--- leaves {status}\n{said[2]}"] if status else [])
+
+
+def check_calls_of_tables(page):
+    """Each call in the tables of a page prints what its row shows; the commands of m11-debug do so in a session, if the page has one."""
+    text, found, count, commands = get(os.path.join(TOP, page)), [], 0, []
+    session = re.search(r"^In a session of `([^`]+)`", text, re.M)
     with tempfile.TemporaryDirectory() as folder:
         copy = Copy(folder)
-        copy.run(next(block for block in blocks_of(page, PAGES["docs/COMMANDS.md"]) if is_commands(block)), "")
-        for calls, texts in rows_of(page, PAGES["docs/COMMANDS.md"]):
-            if not calls[0].startswith((*BEGINS, "sed")):
+        block = next(block for block in blocks_of(text, PAGES[page]) if is_commands(block))
+        if not lacks_a_program(block):
+            copy.run(block, "")
+        for calls, texts in rows_of(text, PAGES[page]):
+            if not calls[0].startswith(BEGINS):
                 commands.append((calls, texts))
             elif not lacks_a_program(calls):
                 count += 1
                 status, said = copy.run(["set +e", *calls], "")
-                stops = any(text.startswith(("REACHED", "CHANGED")) for text in texts)
+                stops = any(shown.startswith(("REACHED", "CHANGED")) for shown in texts)
                 found += missing_texts(calls, texts, said[2])
-                if status != (1 if stops or calls[-1].startswith("diff") else 0):
+                if status != (1 if stops else 0):
                     found.append("\n".join([*calls, f"--- leaves {status}", said[2]]))
-        if not lacks_a_program([session]):
-            lines = [line for calls, _ in commands for line in calls]
-            status, said = copy.run([f"{session} -x /dev/stdin <<'END'", *lines, "END"], "")
-            answers = iter(answers_of(said[0]))
-            for calls, texts in commands:
-                found += missing_texts(calls, texts, "".join(next(answers, "") for _ in calls))
-            if status:
-                found.append(f"{session}\n--- leaves {status}\n{said[2]}")
+        if session and not lacks_a_program([session[1]]):
+            found += missing_answers(copy, session[1], commands)
         left = [line for line in copy.git("status", "--short").split("\n") if line and not line.startswith("A  ")]
         if left:
             found.append("what the calls leave and .gitignore doesn't have: " + ", ".join(left))
-    return found if count and commands else ["the tables have no calls"]
+    if bool(session) != bool(commands):
+        found.append("a session without commands, or calls that begin otherwise: " + ", ".join(call for calls, _ in commands for call in calls))
+    return found if count or lacks_a_program(OTHERS) else ["the tables have no calls"]
 
 
 def check_make():
@@ -295,5 +306,5 @@ def names():
 
 
 CHECKS = [("page-" + page.replace("/README.md", "").replace("/", "-").replace(".md", ""), check_page, (page,)) for page in names()]
-CHECKS += [("page-docs-COMMANDS-calls", check_calls_of_the_table, ()), ("page-examples-modules-with-mistakes", check_make, ()),
-           ("page-examples-rt11-other-forms", check_calls, ())]
+CHECKS += [(f"page-{page.replace('/', '-').replace('.md', '')}-calls", check_calls_of_tables, (page,)) for page in WITH_TABLES]
+CHECKS += [("page-examples-modules-with-mistakes", check_make, ()), ("page-examples-rt11-other-forms", check_calls, ())]

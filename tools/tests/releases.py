@@ -18,10 +18,10 @@ LINKS += [f"share/bash-completion/completions/{name}" for name in ("m11", "m11-b
 LINKS += [f"share/man/man1/{name}.1" for name in (*AT_THE_TOP, *(f"m11-{name}" for name in SCRIPTS))]
 # Some of the released files, and some of those that aren't.
 RELEASED = ("CHANGELOG.md", "LICENSE-APACHE", "LICENSE-MIT", "NOTICE", "README.md", "RELEASE", "SHA256SUMS", "VERSION", "dist/MANIFEST", "dist/m11-trace",
-            "docs/COMMANDS.md", "docs/man/m11-adapt.1", "docs/man/m11-debug.1", "docs/man/m11-dump.1", "examples/link/MAIN.OBJ", "examples/rt11/NTYPE.MAC",
-            "examples/rt11/RT11.MAC", "examples/rt11/RTCALL.MAC", "install", "m11", "m11-build", "m11-debug", "tools/adapt", "tools/adapting/scan.py",
-            "tools/building/main.py", "tools/completion.bash", "tools/contents.py", "tools/debugging/main.py", "tools/folders.py", "tools/images/saves.py",
-            "tools/program.sh", "tools/sav", "tools/version")
+            "docs/COMMANDS.md", "docs/VIEWS.md", "docs/man/m11-adapt.1", "docs/man/m11-debug.1", "docs/man/m11-dump.1", "examples/link/MAIN.OBJ",
+            "examples/rt11/NTYPE.MAC", "examples/rt11/RT11.MAC", "examples/rt11/RTCALL.MAC", "install", "m11", "m11-build", "m11-debug", "tools/adapt",
+            "tools/adapting/scan.py", "tools/building/main.py", "tools/completion.bash", "tools/contents.py", "tools/debugging/main.py", "tools/folders.py",
+            "tools/images/saves.py", "tools/program.sh", "tools/sav", "tools/version")
 NOT_RELEASED = ("check", "crates.txt", "crates", ".git", "examples/modules/MAIN.OBJ", "out", "prove", "tools/adapting/__pycache__", "tools/proving.bash",
                 "tools/release", "tools/test.py", "tools/tests")
 NUMBER = "1.2.3"
