@@ -1,4 +1,4 @@
--- The line that says why a file gives no names for addresses. (This project's own; docs/COMMANDS.md, "Names of addresses".)
+-- The line that says why a file gives no names for addresses. (This project's own; docs/VIEWS.md, "Names of addresses".)
 use Rattle.std.specs.Prelude.{[], ◌∷◌, ◌++◌, codes}
 use Rattle.m11_base.specs.Devices.{Bytes}
 use Rattle.m11_base_disassembly.specs.declared.map_fault.MapFault.{MapFault}

@@ -1,4 +1,4 @@
--- The names in texts: the maps of links, load maps, and listings. (This project's own; docs/COMMANDS.md, "Names of addresses".)
+-- The names in texts: the maps of links, load maps, and listings. (This project's own; docs/VIEWS.md, "Names of addresses".)
 use Rattle.std.specs.Prelude.{◌≡◌, ℕ, ◌<◌, if◌then◌else◌, List, [], ◌++◌, ◌⊎◌, length, codes, Option, Some, None, Result, Ok, Err}
 use Rattle.std.specs.Option.{option_map, option_to_list}
 use Rattle.std.specs.Str.{bytes_eq}

@@ -1,4 +1,4 @@
--- Where the listing of a module lies in a link, by the contributions of a load map. (This project's own; docs/COMMANDS.md, "Names of
+-- Where the listing of a module lies in a link, by the contributions of a load map. (This project's own; docs/VIEWS.md, "Names of
 -- addresses". The columns of a listing are counted from 0.)
 use Rattle.std.specs.Prelude.{◌==◌, ◌&&◌, ◌||◌, ◌+◌, ◌%◌, ℕ, Bool, true, false, not, if◌then◌else◌, List, [], ◌∷◌, codes, Option, Some, None, Result, Ok, Err}
 use Rattle.std.specs.Str.{bytes_eq}

@@ -1,5 +1,5 @@
 -- The lines of a text that give symbols: the globals in the map of a link and in a load map, and the names in the symbol table of a
--- listing. (The columns are this project's own; docs/COMMANDS.md and docs/FORMATS.md describe them.)
+-- listing. (The columns are this project's own; docs/FORMATS.md describes them.)
 use Rattle.std.specs.Prelude.{◌==◌, ◌&&◌, ℕ, if◌then◌else◌, Bool, true, false, List, [], ◌∷◌, codes, Option, Some, None, Result, Ok, Err}
 use Rattle.std.specs.Str.{bytes_eq}
 use Rattle.m11_base.specs.Devices.{Bytes}

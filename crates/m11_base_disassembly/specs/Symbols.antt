@@ -1,5 +1,5 @@
 -- The names of addresses: the nearest symbol at or below an address in its own section, and the distance from there. The addresses of names. (This project's own;
--- docs/COMMANDS.md, "Names of addresses". A symbol and a distance as an operand: MACRO-11 Language Reference Manual, "Expressions".)
+-- docs/VIEWS.md, "Names of addresses". A symbol and a distance as an operand: MACRO-11 Language Reference Manual, "Expressions".)
 use Rattle.std.specs.Prelude.{◌≡◌, ◌⊎◌, ℕ, ◌+◌, ◌-◌, ◌*◌, ◌==◌, ◌&&◌, ◌||◌, Bool, true, false, nat_le, nat_lt, if◌then◌else◌, List, [], ◌∷◌, ◌++◌, Option, Some, None}
 use Rattle.std.specs.List.{AllByRecursion}
 use Rattle.std.specs.Str.{bytes_eq}

@@ -1,4 +1,4 @@
--- The names of addresses, in files: maps, load maps, listings and objects. (This project's own; docs/COMMANDS.md, "Names of addresses".)
+-- The names of addresses, in files: maps, load maps, listings and objects. (This project's own; docs/VIEWS.md, "Names of addresses".)
 use Rattle.std.specs.Prelude.{◌≡◌, ◌⊎◌, ℕ, Bool, false, nat_lt, if◌then◌else◌, List, [], ◌∷◌, ◌++◌, Option, Some, None, Result, Ok, Err, ⊤, slice_index_or}
 use Rattle.m11_base.specs.Devices.{Bytes, Rises}
 use Rattle.m11_base.specs.Feed.{HasBytes, Text}
