@@ -3,6 +3,7 @@ pub mod Written
 pub mod Meant
 pub mod Spelled
 pub mod FirstLines
+pub mod FoundLines
 pub mod FoundSymbols
 pub mod FoundContributions
 pub mod MapText

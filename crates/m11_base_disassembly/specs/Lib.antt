@@ -1,8 +1,10 @@
 pub mod Arguments
 pub mod Columns
 pub mod Contributions
+pub mod Fitting
 pub mod Instructions
 pub mod Lines
+pub mod ListedLines
 pub mod Listings
 pub mod MapFault
 pub mod Maps

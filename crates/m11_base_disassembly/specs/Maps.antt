@@ -1,5 +1,5 @@
 -- The names in texts: the maps of links, load maps, and listings. (This project's own; docs/VIEWS.md, "Names of addresses".)
-use Rattle.std.specs.Prelude.{◌≡◌, ℕ, ◌<◌, if◌then◌else◌, List, [], ◌++◌, ◌⊎◌, length, codes, Option, Some, None, Result, Ok, Err}
+use Rattle.std.specs.Prelude.{◌≡◌, ℕ, ◌<◌, if◌then◌else◌, List, [], ◌∷◌, ◌++◌, ◌⊎◌, length, codes, map, Option, Some, None, Result, Ok, Err}
 use Rattle.std.specs.Option.{option_map, option_to_list}
 use Rattle.std.specs.Str.{bytes_eq}
 use Rattle.m11_base.specs.Devices.{Bytes, Rises}
@@ -7,37 +7,60 @@ use Rattle.m11_base.specs.Feed.{BeginsWith, Text}
 use Rattle.m11_base_disassembly.specs.Columns.{six_at}
 use Rattle.m11_base_disassembly.specs.Contributions.{contributions_of, section_symbols}
 use Rattle.m11_base_disassembly.specs.Lines.{lines_after, lines_of}
+use Rattle.m11_base_disassembly.specs.ListedLines.{PlacedListing, listed_lines, listed_parts, listing_of, placed_parts}
 use Rattle.m11_base_disassembly.specs.Places.{place_of}
 use Rattle.m11_base_disassembly.specs.Rows.{Rows, link_rows, listing_rows, load_rows, placed_rows, symbols_in}
 use Rattle.m11_base_disassembly.specs.declared.contributions.Contribution.{Contribution}
+use Rattle.m11_base_disassembly.specs.declared.kept.Kept.{Kept}
+use Rattle.m11_base_disassembly.specs.declared.kept.Kept.TheVariants.{Names, NamesAndLines}
 use Rattle.m11_base_disassembly.specs.declared.map_fault.MapFault.{MapFault}
 use Rattle.m11_base_disassembly.specs.declared.map_fault.MapFault.TheVariants.{Read, BadMap, TooMuch, NoModule, NoMemory}
 use Rattle.m11_base_disassembly.specs.declared.maps.NamesSoFar as declared
+use Rattle.m11_base_disassembly.specs.declared.parts.Part.{Part}
 use Rattle.m11_base_disassembly.specs.declared.symbols.Symbol.{Symbol}
 
 -- ---- what files of names give
 
 -- what files of names have given so far: the names in maps, load maps and listings, in order, where the sections in a load map come after its
--- globals; and the contributions at which further listings may lie: those in the last load map without those of modules whose listings came
+-- globals; the listings with their lines, in order, if lines are kept; and the contributions at which further listings may lie: those in the last load map without those of modules whose listings came
 -- after it, none after a listing without a load map, or None before a load map and before a listing
 pub record NamesSoFar : Type 0 where
+  pub kept : Kept
   pub symbols : List Symbol
+  pub listings : List PlacedListing
   pub contributions : Option (List Contribution)
 
-abbrev pub nothing : NamesSoFar
-nothing = record { symbols = []; contributions = None }
+-- before any file
+abbrev pub nothing : Kept → NamesSoFar
+nothing kept = record { kept = kept; symbols = []; listings = []; contributions = None }
 
 abbrev pub so_far : declared.NamesSoFar → NamesSoFar
 so_far names = record {
+  kept = names.kept;
   symbols = names.symbols.items;
+  listings = map listing_of names.listings.items;
   contributions = option_map (λ found. found.items) names.contributions;
 }
 
--- the names of a file that is no load map, after the old names
-abbrev pub with_symbols : NamesSoFar → Option (List Contribution) → Result (List Symbol) MapFault → Result NamesSoFar MapFault
-with_symbols old contributions (Ok symbols) =
-    Ok (record { symbols = old.symbols ++ symbols; contributions = contributions })
-with_symbols old contributions (Err fault) = Err fault
+-- the names of the map of a link, after the old names
+abbrev pub with_symbols : NamesSoFar → Result (List Symbol) MapFault → Result NamesSoFar MapFault
+with_symbols old (Ok symbols) = Ok (record old { symbols = old.symbols ++ symbols })
+with_symbols old (Err fault) = Err fault
+
+-- what is kept of a listing with these lines, whose sections lie here, beside its names
+abbrev pub kept_of : Kept → List Part → List Bytes → List PlacedListing
+kept_of Names parts lines = []
+kept_of NamesAndLines parts lines = record { parts = parts; lines = listed_lines lines } ∷ []
+
+-- the names of a listing with these lines, whose sections lie here, after the old names, and the contributions that are left
+abbrev pub with_listed : NamesSoFar → Option (List Contribution) → List Part → List Bytes → Result (List Symbol) MapFault
+    → Result NamesSoFar MapFault
+with_listed old contributions parts lines (Ok symbols) = Ok (record old {
+  symbols = old.symbols ++ symbols;
+  listings = old.listings ++ kept_of old.kept parts lines;
+  contributions = contributions;
+})
+with_listed old contributions parts lines (Err fault) = Err fault
 
 -- ---- which form a text has
 
@@ -47,7 +70,7 @@ globals_in rows lines = elim (lines_after (codes "GLOBALS") lines) [ Some global
 
 -- what a load map with these contributions and globals gives
 abbrev pub with_globals : NamesSoFar → List Contribution → Result (List Symbol) MapFault → Result NamesSoFar MapFault
-with_globals old contributions (Ok symbols) = Ok (record {
+with_globals old contributions (Ok symbols) = Ok (record old {
   symbols = (old.symbols ++ symbols) ++ section_symbols contributions contributions;
   contributions = Some contributions;
 })
@@ -60,24 +83,25 @@ with_load_map old lines = elim (contributions_of lines) [
 ]
 
 -- what a listing gives with the contributions of a load map; `NoModule` if none of its modules has such sections
-abbrev pub with_placed : NamesSoFar → List Contribution → List Bytes → List Bytes → Result NamesSoFar MapFault
-with_placed old contributions sections table = elim (place_of sections contributions) [
-  | Some place ↦ with_symbols old (Some place.others) (symbols_in (placed_rows place.own sections) table)
+abbrev pub with_placed : NamesSoFar → List Contribution → List Bytes → List Bytes → List Bytes → Result NamesSoFar MapFault
+with_placed old contributions lines table sections = elim (place_of sections contributions) [
+  | Some place ↦ with_listed old (Some place.others) (placed_parts place.own sections) lines (symbols_in (placed_rows place.own sections) table)
   | None ↦ Err NoModule
 ]
 
--- what a listing with these lines of sections and this symbol table gives. Without a load map before it the listing is that of a module
--- that a link stores alone, so there is no place for a second one.
-abbrev pub with_listing : ℕ → NamesSoFar → List Bytes → List Bytes → Result NamesSoFar MapFault
-with_listing bottom old sections table = elim old.contributions [
-  | None ↦ with_symbols old (Some []) (symbols_in (listing_rows bottom sections) table)
-  | Some contributions ↦ with_placed old contributions sections table
+-- what a listing with these lines, this symbol table and these lines of sections gives. Without a load map before it the listing is that of a
+-- module that a link stores alone, so there is no place for a second one.
+abbrev pub with_listing : ℕ → NamesSoFar → List Bytes → List Bytes → List Bytes → Result NamesSoFar MapFault
+with_listing bottom old lines table sections = elim old.contributions [
+  | None ↦ with_listed old (Some []) (listed_parts bottom sections) lines (symbols_in (listing_rows bottom sections) table)
+  | Some contributions ↦ with_placed old contributions lines table sections
 ]
 
--- what a listing with this symbol table gives, whose sections are in the lines after its first empty line; `BadMap` if there is no such line
-abbrev pub with_table : ℕ → NamesSoFar → List Bytes → Result NamesSoFar MapFault
-with_table bottom old table =
-    elim (lines_after [] table) [ Some sections ↦ with_listing bottom old sections table | None ↦ Err BadMap ]
+-- what a listing with these lines and this symbol table gives, whose sections are in the lines after the table's first empty line; `BadMap` if
+-- there is no such line
+abbrev pub with_table : ℕ → NamesSoFar → List Bytes → List Bytes → Result NamesSoFar MapFault
+with_table bottom old lines table =
+    elim (lines_after [] table) [ Some sections ↦ with_listing bottom old lines table sections | None ↦ Err BadMap ]
 
 -- what files have given with a further text: a load map, if it begins with `LIMIT `; a listing, if it has a line SYMBOL TABLE; otherwise the
 -- map of a link
@@ -85,8 +109,8 @@ abbrev pub with_text : ℕ → NamesSoFar → Bytes → Result NamesSoFar MapFau
 with_text bottom old text =
     if bytes_eq (six_at text 0) (codes "LIMIT ") then with_load_map old (lines_of text)
     else elim (lines_after (codes "SYMBOL TABLE") (lines_of text)) [
-      | Some table ↦ with_table bottom old table
-      | None ↦ with_symbols old old.contributions (globals_in link_rows (lines_of text))
+      | Some table ↦ with_table bottom old (lines_of text) table
+      | None ↦ with_symbols old (globals_in link_rows (lines_of text))
     ]
 
 -- ---- reading a text

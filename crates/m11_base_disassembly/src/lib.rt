@@ -1,7 +1,7 @@
 //! Disassembly: for words at a location, the line of source from which an assembler produces the same words there. (MACRO-11
 //! Language Reference Manual, "Addressing modes"; PDP-11/40 Processor Handbook, "Instruction set".) This crate also names
-//! addresses by the globals in the maps of links and in load maps, and by the names in listings. Memory is allocated only for the
-//! text of a file of names and for these names.
+//! addresses by the globals in the maps of links and in load maps, and by the names in listings, and finds the line of a listing that shows
+//! the word at an address. Memory is allocated only for the text of a file of names, for these names and for the lines of listings.
 #![tactic(auto)]
 
 // Line buffers, and the parts of a line: names of operations, numbers, references and operands.
@@ -24,6 +24,7 @@ pub use operand_addresses::{Addresses, addresses};
 // The names of addresses: the lines and columns of maps and listings, and their symbols.
 mod columns;
 mod contributions;
+mod kept;
 mod lines;
 mod listings;
 mod map_fault;
@@ -33,11 +34,19 @@ mod rows;
 mod symbols;
 
 pub use contributions::Contribution;
+pub use kept::Kept;
 pub use map_fault::MapFault;
 pub use maps::{NamesSoFar, read_text};
 pub use symbols::{
     Scope, Symbol, address_name, address_source, name_source, number_source, value_named,
 };
+
+// The lines of listings that show words, and where the sections of a listing lie.
+mod listed_lines;
+mod parts;
+
+pub use listed_lines::{ListedLine, PlacedListing, listed_text};
+pub use parts::Part;
 
 // The laws that an assembler produces the same words from a line, that a name is the nearest one, and that a name in an operand is its
 // address.

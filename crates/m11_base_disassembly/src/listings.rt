@@ -10,9 +10,9 @@ use crate::lines::first_line;
 use crate::map_fault::MapFault;
 use crate::symbols::Symbol;
 
-// The base of the section that a line describes: `base` for a relocatable section, 0 for an absolute one. Error: `BadMap`, if the line says
-// neither REL nor ABS.
-fn own_base(base: u16, line: &[u8]) -> Result<u16, MapFault>
+/// The base of the section that a line describes: `base` for a relocatable section, 0 for an absolute one. Error: `BadMap`, if the line says
+/// neither REL nor ABS.
+pub(crate) fn own_base(base: u16, line: &[u8]) -> Result<u16, MapFault>
     ensures { result ≡ spec.own_base base line.now }
 {
     let place = three_at(line, 27);
@@ -32,9 +32,9 @@ fn past(base: u16, size: u16) -> u16
     ((u32::from(base) + (u32::from(size) + u32::from(size % 2))) % 0o200000) as u16
 }
 
-// Where the next relocatable section begins: at `base`, or past the section that the line describes if that one is relocatable and so
-// begins at `base`. Error: `BadMap`, if the line says neither REL nor ABS, or if it says REL and the size isn't an octal word.
-fn next_base(base: u16, line: &[u8]) -> Result<u16, MapFault>
+/// Where the next relocatable section begins: at `base`, or past the section that the line describes if that one is relocatable and so
+/// begins at `base`. Error: `BadMap`, if the line says neither REL nor ABS, or if it says REL and the size isn't an octal word.
+pub(crate) fn next_base(base: u16, line: &[u8]) -> Result<u16, MapFault>
     ensures { result ≡ spec.next_base base line.now }
 {
     let place = three_at(line, 27);
