@@ -7,6 +7,7 @@ use Rattle.m11_base.specs.Feed.{Text}
 use Rattle.m11_base_files.specs.Opens.{AreFiles, Files, Holds, Lacks}
 use Rattle.m11_link_load_map.specs.NameFiles.{AddsFile, AddsFiles, GiveAll, HasFile, HoldsObject, LacksNames, NoneNamed, ObjectsLack, is_object}
 use Rattle.m11_base_disassembly.specs.Maps.{NamesSoFar, nothing, with_text}
+use Rattle.m11_base_disassembly.specs.declared.kept.Kept.{Kept}
 use Rattle.m11_base_disassembly.specs.declared.map_fault.MapFault.{MapFault}
 use Rattle.m11_link_load_map.specs.declared.name_files.NoNames.{NoNames}
 use Rattle.m11_link_load_map.specs.declared.name_files.NoNames.TheVariants.{NotOpened, InFile}
@@ -111,12 +112,12 @@ module _ {I : Type 0} (text : I → Option Text) where
   )
 
 -- if all files give names, but a link of the objects among them is refused, there are no names
-pub none_named : {A I : Type 0} (text : I → Option Text) (faults : I → ℕ) (bottom : ℕ) (files : Option Files) (paths : List (List ℕ))
+pub none_named : {A I : Type 0} (text : I → Option Text) (faults : I → ℕ) (kept : Kept) (bottom : ℕ) (files : Option Files) (paths : List (List ℕ))
     (found : NamesSoFar) (objects own : List (List ℕ)) (inputs opened : List I) (result : Result A NoNames)
-    → GiveAll bottom files paths nothing found own → AreFiles text files own opened → objects ≡ own → inputs ≡ opened
-    → IfErr result (ObjectsLack text faults bottom objects inputs) → IfErr result (NoneNamed text faults bottom files paths)
-none_named text faults bottom files paths found objects own inputs opened (Ok x) given are o i h = tt
-none_named {A} {I} text faults bottom files paths found objects own inputs opened (Err none) given are o i h =
+    → GiveAll bottom files paths (nothing kept) found own → AreFiles text files own opened → objects ≡ own → inputs ≡ opened
+    → IfErr result (ObjectsLack text faults bottom objects inputs) → IfErr result (NoneNamed text faults kept bottom files paths)
+none_named text faults kept bottom files paths found objects own inputs opened (Ok x) given are o i h = tt
+none_named {A} {I} text faults kept bottom files paths found objects own inputs opened (Err none) given are o i h =
     let P : List (List ℕ) → Type 0 = λ these. ObjectsLack text faults bottom these opened none in
     let Q : List I → Type 0 = λ these. ObjectsLack text faults bottom objects these none in
     inr (found, own, opened, given, are, subst P o (subst Q i h))

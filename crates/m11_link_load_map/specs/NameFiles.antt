@@ -2,7 +2,9 @@
 use Rattle.std.specs.Prelude.{◌≡◌, ◌⊎◌, ℕ, Bool, false, nat_lt, if◌then◌else◌, List, [], ◌∷◌, ◌++◌, Option, Some, None, Result, Ok, Err, ⊤, slice_index_or}
 use Rattle.m11_base.specs.Devices.{Bytes, Rises}
 use Rattle.m11_base.specs.Feed.{HasBytes, Text}
+use Rattle.m11_base_disassembly.specs.ListedLines.{PlacedListing}
 use Rattle.m11_base_disassembly.specs.Maps.{IsUnread, NamesSoFar, nothing, with_text}
+use Rattle.m11_base_disassembly.specs.declared.kept.Kept.{Kept}
 use Rattle.m11_base_disassembly.specs.declared.map_fault.MapFault.{MapFault}
 use Rattle.m11_base_disassembly.specs.declared.map_fault.MapFault.TheVariants.{Read, BadMap, NoMemory}
 use Rattle.m11_base_disassembly.specs.declared.symbols.Symbol.{Symbol}
@@ -103,17 +105,18 @@ module _ {I : Type 0} (text : I → Option Text) (faults : I → ℕ) where
   abbrev pub WithObjects : ℕ → List Bytes → List I → List Symbol → List Symbol → Type 0
   WithObjects bottom objects inputs old new = (more : List Symbol) × ObjectsGive bottom objects inputs more × (new ≡ old ++ more)
 
-  -- the names in the files at these paths, and after them those of the objects among these files
-  abbrev pub Names : ℕ → Option Files → List Bytes → List Symbol → Type 0
-  Names bottom files paths symbols = (found : NamesSoFar) × (objects : List Bytes) × (inputs : List I)
-      × GiveAll bottom files paths nothing found objects × AreFiles text files objects inputs
-      × WithObjects bottom objects inputs found.symbols symbols
+  -- the names in the files at these paths, and after them those of the objects among these files; and the listings among the files with their
+  -- lines, in order, if lines are kept
+  abbrev pub Names : Kept → ℕ → Option Files → List Bytes → List Symbol → List PlacedListing → Type 0
+  Names kept bottom files paths symbols listings = (found : NamesSoFar) × (objects : List Bytes) × (inputs : List I)
+      × GiveAll bottom files paths (nothing kept) found objects × AreFiles text files objects inputs
+      × WithObjects bottom objects inputs found.symbols symbols × (listings ≡ found.listings)
 
   -- why there are no names: one of the files gives none, for a reason of its own; or each file was read, but a link of the objects
   -- among them is refused
-  abbrev pub NoneNamed : ℕ → Option Files → List Bytes → NoNames → Type 0
-  NoneNamed bottom files paths none = LackNames bottom files paths nothing none
-      ⊎ ((found : NamesSoFar) × (objects : List Bytes) × (inputs : List I) × GiveAll bottom files paths nothing found objects
+  abbrev pub NoneNamed : Kept → ℕ → Option Files → List Bytes → NoNames → Type 0
+  NoneNamed kept bottom files paths none = LackNames bottom files paths (nothing kept) none
+      ⊎ ((found : NamesSoFar) × (objects : List Bytes) × (inputs : List I) × GiveAll bottom files paths (nothing kept) found objects
       × AreFiles text files objects inputs × ObjectsLack bottom objects inputs none)
 
   -- ---- adding names to others

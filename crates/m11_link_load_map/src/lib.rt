@@ -24,7 +24,7 @@ mod link_globals;
 mod name_files;
 mod objects;
 
-pub use name_files::{NoNames, read_names};
+pub use name_files::{FileNames, NoNames, read_names};
 
 // Laws: each section entry is shown once, and objects have at most one map.
 mod laws;

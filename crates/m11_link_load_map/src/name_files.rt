@@ -2,12 +2,13 @@
 
 ghost use Rattle.std.specs.Prelude.{◌≡◌, ◌++◌, ℕ, IfErr, IfOk, map};
 ghost use Rattle.m11_base.specs.Feed.{HasBytes};
+ghost use Rattle.m11_base_disassembly.specs.ListedLines.{listing_of};
 ghost use Rattle.m11_base_disassembly.specs.Maps.{IsUnread, so_far};
 ghost use Rattle.m11_link_load_map.specs.NameFiles as spec;
 
 use crate::objects::add_object_names;
 use m11_base::Feed;
-use m11_base_disassembly::{MapFault, NamesSoFar, Symbol, read_text};
+use m11_base_disassembly::{Kept, MapFault, NamesSoFar, PlacedListing, Symbol, read_text};
 use m11_base_files::{OpenRefusal, Opens};
 use std::alloc::Global;
 
@@ -19,6 +20,15 @@ pub enum NoNames<'a> {
     /// The file at this path couldn't be read, is too long, has none of the forms, or is an object that a link refuses; or memory was
     /// refused for it.
     InFile(&'a str, MapFault),
+}
+
+/// What files of names give.
+#[derive(Drop)]
+pub struct FileNames {
+    /// The names of addresses.
+    pub symbols: Vec<Symbol>,
+    /// The listings among the files with their lines, in order; none if only names are kept.
+    pub listings: Vec<PlacedListing>,
 }
 
 // What has been found so far in files of names.
@@ -35,23 +45,24 @@ struct Found<'a, I> {
 /// The names of addresses in the files at these paths: the globals of maps, the globals and the sections of load maps, and the names in
 /// listings, in order, and after them the globals of a link of the objects among these files. A listing lies where the contributions of its
 /// module do in the last load map before it; without a load map before it, and in a link of the objects, relocatable sections begin at
-/// `bottom`. Each file is opened and read before the next; an object is then opened again, as for two passes, and must be a file that can be read more than once. Error: why a
+/// `bottom`. If lines are kept, the listings with their lines are handed back too. Each file is opened and read before the next; an object is then opened again, as for two passes, and must be a file that can be read more than once. Error: why a
 /// file gives no names, for the first such file; or else why a link of the objects is refused, with the path of the object at fault.
 pub fn read_names<'a, F: Opens>(
     alloc: Global,
     files: &mut F,
+    kept: Kept,
     bottom: u16,
     paths: &[&'a str],
-) -> Result<Vec<Symbol>, NoNames<'a>>
-    ensures names { IfOk result (λ symbols. spec.Names F.Input.text F.Input.faults bottom (F.files files.old)
-        (map (λ path. path.now) paths.now) symbols.items) }
-    ensures none { IfErr result (spec.NoneNamed F.Input.text F.Input.faults bottom (F.files files.old)
+) -> Result<FileNames, NoNames<'a>>
+    ensures names { IfOk result (λ names. spec.Names F.Input.text F.Input.faults kept bottom (F.files files.old)
+        (map (λ path. path.now) paths.now) names.symbols.items (map listing_of names.listings.items)) }
+    ensures none { IfErr result (spec.NoneNamed F.Input.text F.Input.faults kept bottom (F.files files.old)
         (map (λ path. path.now) paths.now)) }
     ensures files { F.files files.new ≡ F.files files.old }
     ensures counts { spec.Counts (F.refusals files.old) (F.refusals files.new) result }
 {
     let mut found = Found {
-        names: NamesSoFar::new(alloc),
+        names: NamesSoFar::new(alloc, kept),
         objects: Vec::new(alloc),
         inputs: Vec::new(alloc),
     };
@@ -67,9 +78,10 @@ fn with_objects<'a, F: Opens>(
     files: &F,
     bottom: u16,
     found: Found<'a, F::Input>,
-) -> Result<Vec<Symbol>, NoNames<'a>>
-    ensures names { IfOk result (λ symbols. spec.WithObjects F.Input.text F.Input.faults bottom (map (λ path. path.now) found.entry.objects.items)
-        found.entry.inputs.items found.entry.names.symbols.items symbols.items) }
+) -> Result<FileNames, NoNames<'a>>
+    ensures names { IfOk result (λ names. spec.WithObjects F.Input.text F.Input.faults bottom (map (λ path. path.now) found.entry.objects.items)
+        found.entry.inputs.items found.entry.names.symbols.items names.symbols.items) }
+    ensures listings { IfOk result (λ names. names.listings ≡ found.entry.names.listings) }
     ensures none { IfErr result (spec.ObjectsLack F.Input.text F.Input.faults bottom (map (λ path. path.now) found.entry.objects.items)
         found.entry.inputs.items) }
 {
@@ -78,7 +90,11 @@ fn with_objects<'a, F: Opens>(
         objects,
         inputs,
     } = found;
-    let NamesSoFar { symbols, .. } = names;
+    let NamesSoFar {
+        symbols,
+        listings,
+        ..
+    } = names;
     let mut symbols = symbols;
     let mut inputs = inputs;
     let seed = files.seed();
@@ -90,7 +106,7 @@ fn with_objects<'a, F: Opens>(
         objects.as_slice(),
         inputs.as_mut_slice(),
     ) {
-        Ok(()) => Ok(symbols),
+        Ok(()) => Ok(FileNames { symbols, listings }),
         Err(none) => Err(none),
     }
 }
