@@ -21,7 +21,7 @@ use Rattle.m11_trace.specs.Lines.{line_with, step_line}
 use Rattle.m11_trace.specs.Shots.{shot_of}
 use Rattle.m11_trace.specs.Taken.{line_from}
 use Rattle.m11_trace.specs.declared.shots.Shot.{Shot}
-use Rattle.m11_base_disassembly.specs.declared.symbols.Symbol.{Symbol}
+use Rattle.m11_trace.specs.Known.{Known}
 use Rattle.m11_trace.proofs.Going.{appends_nothing, begins_after, begins_whole}
 
 -- past the end of a memory each word is 0
@@ -211,16 +211,16 @@ all_walked copy words memory index a b f g w le ge =
 
 -- ---- lines
 
-line_as : (symbols : List Symbol) (first number : ℕ) (shot : Shot) (words : List ℕ) (m m'' : Machine) → shot ≡ shot_of m m''
+line_as : (known : Known) (first number : ℕ) (shot : Shot) (words : List ℕ) (m m'' : Machine) → shot ≡ shot_of m m''
     → (first ≤ number → HaveSameWords (bytes_of words) m.memory)
-    → line_from first number (line_with symbols number shot (memory_changes (bytes_of words) m''.memory))
-    ≡ line_from first number (step_line symbols number m m'')
-line_as symbols first number shot words m m'' is same =
+    → line_from first number (line_with known number shot (memory_changes (bytes_of words) m''.memory))
+    ≡ line_from first number (step_line known number m m'')
+line_as known first number shot words m m'' is same =
     let by : (t : Bool) → (t ≡ true → HaveSameWords (bytes_of words) m.memory)
-    → cond t (line_with symbols number shot (memory_changes (bytes_of words) m''.memory)) [] ≡ cond t (step_line symbols number m m'') [] =
+    → cond t (line_with known number shot (memory_changes (bytes_of words) m''.memory)) [] ≡ cond t (step_line known number m m'') [] =
     λ t. elim t as (λ v. (v ≡ true → HaveSameWords (bytes_of words) m.memory)
-    → cond v (line_with symbols number shot (memory_changes (bytes_of words) m''.memory)) [] ≡ cond v (step_line symbols number m m'') []) [
-      | true ↦ λ h. ap₂ (line_with symbols number) is (changes_alike (bytes_of words) m.memory m''.memory (h refl))
+    → cond v (line_with known number shot (memory_changes (bytes_of words) m''.memory)) [] ≡ cond v (step_line known number m m'') []) [
+      | true ↦ λ h. ap₂ (line_with known number) is (changes_alike (bytes_of words) m.memory m''.memory (h refl))
       | false ↦ λ h. refl
     ] in
     by (nat_le first number) (λ e. same (leb-true first number e))
@@ -231,11 +231,11 @@ pub keeps_up : (first count : ℕ) (words memory same : List ℕ) → memory ≡
 keeps_up first count words memory same is keeps = subst (λ (bytes : List ℕ). CopyMatches first count words bytes) is keeps
 
 -- if the copy has the words of the memory before the step, the line with its changes is the line of the step
-pub line_is : (symbols : List Symbol) (first number : ℕ) (shot : Shot) (words earlier later : List ℕ) (m m'' : Machine) → earlier ≡ m.memory
+pub line_is : (known : Known) (first number : ℕ) (shot : Shot) (words earlier later : List ℕ) (m m'' : Machine) → earlier ≡ m.memory
     → later ≡ m''.memory → shot ≡ shot_of m m'' → (first ≤ number → HaveSameWords (bytes_of words) earlier)
-    → line_from first number (line_with symbols number shot (memory_changes (bytes_of words) later))
-    ≡ line_from first number (step_line symbols number m m'')
-line_is symbols first number shot words earlier later m m'' earlier_is later_is is same =
-    ap (λ (memory : List ℕ). line_from first number (line_with symbols number shot (memory_changes (bytes_of words) memory))) later_is
-    ∙ line_as symbols first number shot words m m'' is
+    → line_from first number (line_with known number shot (memory_changes (bytes_of words) later))
+    ≡ line_from first number (step_line known number m m'')
+line_is known first number shot words earlier later m m'' earlier_is later_is is same =
+    ap (λ (memory : List ℕ). line_from first number (line_with known number shot (memory_changes (bytes_of words) memory))) later_is
+    ∙ line_as known first number shot words m m'' is
     (λ le. subst (λ (memory : List ℕ). HaveSameWords (bytes_of words) memory) earlier_is (same le))

@@ -26,7 +26,7 @@ use Rattle.m11_trace.specs.declared.ending.Ending.{Ending}
 use Rattle.m11_trace.specs.declared.ending.Ending.TheVariants as ending
 use Rattle.m11_trace.specs.declared.shots.Shot.{Shot}
 use Rattle.m11_trace.specs.declared.stops.Stops.{Stops}
-use Rattle.m11_base_disassembly.specs.declared.symbols.Symbol.{Symbol}
+use Rattle.m11_trace.specs.Known.{Known}
 use Rattle.m11_trace.proofs.Following.{runs_out, runs_stop}
 
 -- ---- texts
@@ -85,9 +85,9 @@ pub record Going (limit count : ℕ) (stops : Stops) (m m' : Machine) (old new :
   pub within : count ≤ limit
 
 -- the lines of these steps were written, and the last `last` steps are recorded
-pub record Shown (symbols : List Symbol) (first last : ℕ) (taken : List TracedStep) (recent : List Shot) (output output' : Output) : Type 0 where
+pub record Shown (known : Known) (first last : ℕ) (taken : List TracedStep) (recent : List Shot) (output output' : Output) : Type 0 where
   pub kept : recent ≡ take last (map kept taken)
-  pub text : Appends output.text output'.text (lines_from symbols first taken)
+  pub text : Appends output.text output'.text (lines_from known first taken)
   pub faults : output'.faults ≡ output.faults
 
 pub none_made : (limit : ℕ) (stops : Stops) (m : Machine) (old : Devices) → Going limit 0 stops m m old old Next []
@@ -100,9 +100,9 @@ none_made limit stops m old = record {
   within = omega arith;
 }
 
-pub none_shown : (symbols : List Symbol) (first last : ℕ) (recent : List Shot) (output : Output) → recent ≡ []
-    → Shown symbols first last [] recent output output
-none_shown symbols first last recent output e = record { kept = e ∙ sym (take_none last); text = appends_nothing output.text; faults = refl }
+pub none_shown : (known : Known) (first last : ℕ) (recent : List Shot) (output : Output) → recent ≡ []
+    → Shown known first last [] recent output output
+none_shown known first last recent output e = record { kept = e ∙ sym (take_none last); text = appends_nothing output.text; faults = refl }
 
 abbrev pub made : Machine → Turn → Machine → TracedStep
 made before turn later = record { before = before; turn = turn; later = later }
@@ -207,20 +207,20 @@ at_any limit count stops m m' old new (Stopped stop) latest earlier g =
 
 -- ---- steps with their lines
 
-module _ (symbols : List Symbol) (first last : ℕ) (taken : List TracedStep) (recent : List Shot) (output middle : Output) (s : Shown symbols first last taken recent output middle) where
+module _ (known : Known) (first last : ℕ) (taken : List TracedStep) (recent : List Shot) (output middle : Output) (s : Shown known first last taken recent output middle) where
   line_of : (m m'' : Machine) (turn : Turn) (count : ℕ) (line : List ℕ) → count ≡ length taken
-      → line ≡ line_from first (count + 1) (step_line symbols (count + 1) m m'')
-      → lines_from symbols first taken ++ line ≡ lines_from symbols first (made m turn m'' ∷ taken)
+      → line ≡ line_from first (count + 1) (step_line known (count + 1) m m'')
+      → lines_from known first taken ++ line ≡ lines_from known first (made m turn m'' ∷ taken)
   line_of m m'' turn count line long is =
       let one : count + 1 ≡ suc (length taken) = omega (arith, long) in
-      let to : ℕ → List ℕ = λ n. line_from first n (step_line symbols n m m'') in
-      ap (λ (t : List ℕ). lines_from symbols first taken ++ t) (is ∙ ap to one)
+      let to : ℕ → List ℕ = λ n. line_from first n (step_line known n m m'') in
+      ap (λ (t : List ℕ). lines_from known first taken ++ t) (is ∙ ap to one)
 
   pub one_shown : (m m'' : Machine) (turn : Turn) (count : ℕ) (shot : Shot) (line : List ℕ) (recent' : List Shot)
       (output' : Output) → count ≡ length taken → shot ≡ shot_of m m'' → recent' ≡ take last (shot ∷ recent)
-      → line ≡ line_from first (count + 1) (step_line symbols (count + 1) m m'') → Appends middle.text output'.text line
+      → line ≡ line_from first (count + 1) (step_line known (count + 1) m m'') → Appends middle.text output'.text line
       → output'.faults ≡ middle.faults
-      → Shown symbols first last (made m turn m'' ∷ taken) recent' output output'
+      → Shown known first last (made m turn m'' ∷ taken) recent' output output'
   one_shown m m'' turn count shot line recent' output' long is kept_is line_is text faults =
       let P : List ℕ → Type 0 = λ t. Appends output.text output'.text t in
       let Q : List Shot → Type 0 = λ r. recent' ≡ take last (shot ∷ r) in
@@ -228,37 +228,37 @@ module _ (symbols : List Symbol) (first last : ℕ) (taken : List TracedStep) (r
       record {
         kept = subst R is (subst Q s.kept kept_is ∙ take_again last shot (map kept taken));
         text = subst P (line_of m m'' turn count line long line_is)
-            (Appends-Appends output.text middle.text output'.text (lines_from symbols first taken) _ s.text text);
+            (Appends-Appends output.text middle.text output'.text (lines_from known first taken) _ s.text text);
         faults = faults ∙ s.faults;
       }
 
   pub part_shown : (m m'' : Machine) (turn : Turn) (count : ℕ) (line : List ℕ) (output' : Output)
-      → count ≡ length taken → line ≡ line_from first (count + 1) (step_line symbols (count + 1) m m'')
+      → count ≡ length taken → line ≡ line_from first (count + 1) (step_line known (count + 1) m m'')
       → AppendsPrefix middle.text output'.text line → Rises middle.faults output'.faults
-      → AppendsPrefix output.text output'.text (lines_from symbols first (made m turn m'' ∷ taken))
+      → AppendsPrefix output.text output'.text (lines_from known first (made m turn m'' ∷ taken))
       × Rises output.faults output'.faults
   part_shown m m'' turn count line output' long line_is text faults =
       let P : List ℕ → Type 0 = λ t. AppendsPrefix output.text output'.text t in
       let Q : ℕ → Type 0 = λ n. Rises n output'.faults in (
         subst P (line_of m m'' turn count line long line_is)
-            (begins_after output.text middle.text output'.text (lines_from symbols first taken) _ s.text text),
+            (begins_after output.text middle.text output'.text (lines_from known first taken) _ s.text text),
         subst Q s.faults faults,
       )
 
 -- if the line of a step can't be written whole, the steps end with that fault
-pub not_put : (limit count : ℕ) (symbols : List Symbol) (first last : ℕ) (stops : Stops) (m m' m'' : Machine) (old middle new : Devices) (taken : List TracedStep)
+pub not_put : (limit count : ℕ) (known : Known) (first last : ℕ) (stops : Stops) (m m' m'' : Machine) (old middle new : Devices) (taken : List TracedStep)
     (recent recent' : List Shot) (output held output' : Output) (turn : Turn) (line : List ℕ) (fault : SimFault)
     → Going limit count stops m m' old middle Next taken → AreQuiet stops taken
-    → Shown symbols first last taken recent output held → count < limit → is_at stops taken m' ≡ false → Does (step m') middle new (turn, m'')
-    → line ≡ line_from first (count + 1) (step_line symbols (count + 1) m' m'')
+    → Shown known first last taken recent output held → count < limit → is_at stops taken m' ≡ false → Does (step m') middle new (turn, m'')
+    → line ≡ line_from first (count + 1) (step_line known (count + 1) m' m'')
     → PutsMessages {A = Unit {0}} held.text output'.text held.faults output'.faults line (Err fault)
-    → StepsWithLines (λ n. run_counted n m) limit symbols first last stops m m'' old new output output' recent' (Err fault)
-not_put limit count symbols first last stops m m' m'' old middle new taken recent recent' output held output' turn line Write g quiet s lt away does is p =
+    → StepsWithLines (λ n. run_counted n m) limit known first last stops m m'' old new output output' recent' (Err fault)
+not_put limit count known first last stops m m' m'' old middle new taken recent recent' output held output' turn line Write g quiet s lt away does is p =
     let more = one_made limit count stops m m' old middle taken g quiet m'' new turn lt away does in
     let any = at_any limit (count + 1) stops m m'' old new turn (made m' turn m'') taken more in
-    let part = part_shown symbols first last taken recent output held s m' m'' turn count line output' g.long is p.0 p.1 in
+    let part = part_shown known first last taken recent output held s m' m'' turn count line output' g.long is p.0 p.1 in
     (any.0, any.1, any.2, made m' turn m'' ∷ taken, any.3, part.0, part.1)
-not_put limit count symbols first last stops m m' m'' old middle new taken recent recent' output held output' turn line NoMemory g quiet s lt away does is p =
+not_put limit count known first last stops m m' m'' old middle new taken recent recent' output held output' turn line NoMemory g quiet s lt away does is p =
     absurd p
-not_put limit count symbols first last stops m m' m'' old middle new taken recent recent' output held output' turn line (Load f) g quiet s lt away does is p =
+not_put limit count known first last stops m m' m'' old middle new taken recent recent' output held output' turn line (Load f) g quiet s lt away does is p =
     absurd p

@@ -14,7 +14,7 @@ use Rattle.m11_cpu.specs.declared.fault.SimFault.TheVariants.{Load, Write, NoMem
 use Rattle.m11_trace.specs.Lines.{short_line}
 use Rattle.m11_trace.specs.Taken.{TracedStep, kept, recent_lines, shots_text}
 use Rattle.m11_trace.specs.declared.shots.Shot.{Shot}
-use Rattle.m11_base_disassembly.specs.declared.symbols.Symbol.{Symbol}
+use Rattle.m11_trace.specs.Known.{Known}
 use Rattle.m11_trace.proofs.Going.{appends_nothing, begins_after, begins_whole}
 
 -- if a first text was written whole, and then a second one whole or in part, both together were written as the second was
@@ -45,84 +45,84 @@ named_text start name steps registers psw =
 -- ---- the last steps
 
 -- the lines of the steps that are recorded are those of the last steps
-pub recent_are : (symbols : List Symbol) (first last count : ℕ) (taken : List TracedStep) (recent : List Shot) → count ≡ length taken
+pub recent_are : (known : Known) (first last count : ℕ) (taken : List TracedStep) (recent : List Shot) → count ≡ length taken
     → recent ≡ take last (map kept taken)
-    → cond (nat_lt count first) (shots_text symbols count recent) [] ≡ recent_lines symbols first last taken
-recent_are symbols first last count taken recent long is =
-    let to : ℕ → List Shot → List ℕ = λ n r. cond (nat_lt n first) (shots_text symbols n r) [] in ap₂ to long is
+    → cond (nat_lt count first) (shots_text known count recent) [] ≡ recent_lines known first last taken
+recent_are known first last count taken recent long is =
+    let to : ℕ → List Shot → List ℕ = λ n r. cond (nat_lt n first) (shots_text known n r) [] in ap₂ to long is
 
 -- the lines of the steps before the last ones are the beginning of all lines
-lines_begin : (symbols : List Symbol) (left number : ℕ) (shots : List Shot)
-    → (rest : List ℕ) × (shots_text symbols number shots ≡ shots_text symbols (number - left) (drop left shots) ++ rest)
-lines_begin symbols zero number shots =
+lines_begin : (known : Known) (left number : ℕ) (shots : List Shot)
+    → (rest : List ℕ) × (shots_text known number shots ≡ shots_text known (number - left) (drop left shots) ++ rest)
+lines_begin known zero number shots =
     let whole : number ≡ number - 0 = omega arith in
-    ([], ap (λ (n : ℕ). shots_text symbols n shots) whole ∙ sym (append-nil (shots_text symbols (number - 0) shots)))
-lines_begin symbols (suc left) number [] = ([], refl)
-lines_begin symbols (suc left) number (shot ∷ earlier) =
-    let begin = lines_begin symbols left (number - 1) earlier in
-    let line : List ℕ = short_line symbols number shot in
+    ([], ap (λ (n : ℕ). shots_text known n shots) whole ∙ sym (append-nil (shots_text known (number - 0) shots)))
+lines_begin known (suc left) number [] = ([], refl)
+lines_begin known (suc left) number (shot ∷ earlier) =
+    let begin = lines_begin known left (number - 1) earlier in
+    let line : List ℕ = short_line known number shot in
     let fewer : number - 1 - left ≡ number - suc left = omega arith in
-    let to : ℕ → List ℕ = λ n. shots_text symbols n (drop left earlier) ++ (begin.0 ++ line) in (
+    let to : ℕ → List ℕ = λ n. shots_text known n (drop left earlier) ++ (begin.0 ++ line) in (
       begin.0 ++ line,
-      ap (λ (t : List ℕ). t ++ line) begin.1 ∙ append_assoc (shots_text symbols (number - 1 - left) (drop left earlier)) begin.0 line
+      ap (λ (t : List ℕ). t ++ line) begin.1 ∙ append_assoc (shots_text known (number - 1 - left) (drop left earlier)) begin.0 line
           ∙ ap to fewer,
     )
 
 -- the lines of the recorded steps but the last `left` ones were written; the latest step has this number
-pub record Showing (symbols : List Symbol) (number left : ℕ) (shots : List Shot) (a b : Option (List ℕ)) (f g : ℕ) : Type 0 where
-  pub put : Appends a b (shots_text symbols (number - left) (drop left shots))
+pub record Showing (known : Known) (number left : ℕ) (shots : List Shot) (a b : Option (List ℕ)) (f g : ℕ) : Type 0 where
+  pub put : Appends a b (shots_text known (number - left) (drop left shots))
   pub sound : g ≡ f
   pub within : left ≤ length shots
 
-pub nothing_yet : (symbols : List Symbol) (number left : ℕ) (shots : List Shot) (a : Option (List ℕ)) (f : ℕ) → left ≡ length shots
-    → Showing symbols number left shots a a f f
-nothing_yet symbols number left shots a f all =
+pub nothing_yet : (known : Known) (number left : ℕ) (shots : List Shot) (a : Option (List ℕ)) (f : ℕ) → left ≡ length shots
+    → Showing known number left shots a a f f
+nothing_yet known number left shots a f all =
     let none = drop_all left shots (omega (arith, all)) in
-    let P : List Shot → Type 0 = λ xs. Appends a a (shots_text symbols (number - left) xs) in
+    let P : List Shot → Type 0 = λ xs. Appends a a (shots_text known (number - left) xs) in
     record { put = subst P (sym none) (appends_nothing a); sound = refl; within = omega (arith, all) }
 
-module _ (symbols : List Symbol) (number left next : ℕ) (shots : List Shot) (a b c : Option (List ℕ)) (f g h : ℕ) (shot : Shot)
-    (s : Showing symbols number left shots a b f g) (one : left ≡ next + 1) (is : slice_get shots next ≡ Some shot) where
-  line_is : shots_text symbols (number - left) (drop left shots) ++ short_line symbols (number - next) shot
-      ≡ shots_text symbols (number - next) (drop next shots)
+module _ (known : Known) (number left next : ℕ) (shots : List Shot) (a b c : Option (List ℕ)) (f g h : ℕ) (shot : Shot)
+    (s : Showing known number left shots a b f g) (one : left ≡ next + 1) (is : slice_get shots next ≡ Some shot) where
+  line_is : shots_text known (number - left) (drop left shots) ++ short_line known (number - next) shot
+      ≡ shots_text known (number - next) (drop next shots)
   line_is =
       let lt : next < length shots = omega (arith, one, s.within) in
       let there : get_or shots next shot ≡ shot = get_or_from_slice_get shots next shot shot is in
       let fewer : number - left ≡ number - next - 1 = omega (arith, one) in
-      let line : List ℕ = short_line symbols (number - next) shot in
-      let to : ℕ → ℕ → List ℕ = λ n k. shots_text symbols n (drop k shots) ++ line in
-      let from : List Shot → List ℕ = λ xs. shots_text symbols (number - next) xs in
+      let line : List ℕ = short_line known (number - next) shot in
+      let to : ℕ → ℕ → List ℕ = λ n k. shots_text known n (drop k shots) ++ line in
+      let from : List Shot → List ℕ = λ xs. shots_text known (number - next) xs in
       ap₂ to fewer one ∙ sym (ap from (drop_more shots next shot lt ∙ ap (λ (x : Shot). x ∷ drop (next + 1) shots) there))
 
   -- the line of one more step was written
-  pub one_more_shown : Appends b c (short_line symbols (number - next) shot) → h ≡ g → Showing symbols number next shots a c f h
+  pub one_more_shown : Appends b c (short_line known (number - next) shot) → h ≡ g → Showing known number next shots a c f h
   one_more_shown put sound =
       let P : List ℕ → Type 0 = λ t. Appends a c t in
       record {
-        put = subst P line_is (Appends-Appends a b c (shots_text symbols (number - left) (drop left shots)) _ s.put put);
+        put = subst P line_is (Appends-Appends a b c (shots_text known (number - left) (drop left shots)) _ s.put put);
         sound = sound ∙ s.sound;
         within = omega (arith, one, s.within);
       }
 
   -- if the line of one more step can't be written, only a prefix of all lines was written
-  pub shot_failed : (fault : SimFault) → PutsMessages {A = Unit {0}} b c g h (short_line symbols (number - next) shot) (Err fault)
-      → PutsMessages {A = Unit {0}} a c f h (shots_text symbols number shots) (Err fault)
+  pub shot_failed : (fault : SimFault) → PutsMessages {A = Unit {0}} b c g h (short_line known (number - next) shot) (Err fault)
+      → PutsMessages {A = Unit {0}} a c f h (shots_text known number shots) (Err fault)
   shot_failed Write p =
-      let begin = lines_begin symbols next number shots in
+      let begin = lines_begin known next number shots in
       let P : List ℕ → Type 0 = λ t. AppendsPrefix a c t in
       let Q : ℕ → Type 0 = λ n. Rises n h in
-      let part = subst P line_is (begins_after a b c (shots_text symbols (number - left) (drop left shots)) _ s.put p.0) in
+      let part = subst P line_is (begins_after a b c (shots_text known (number - left) (drop left shots)) _ s.put p.0) in
       (subst P (sym begin.1) (begins_whole a c _ begin.0 part), subst Q s.sound p.1)
   shot_failed NoMemory p = absurd p
   shot_failed (Load fault) p = absurd p
 
 -- no step is left: all lines were written
-pub all_lines : (symbols : List Symbol) (number left : ℕ) (shots : List Shot) (a b : Option (List ℕ)) (f g : ℕ)
-    → Showing symbols number left shots a b f g → left ≡ 0 → PutsMessages {A = Unit {0}} a b f g (shots_text symbols number shots) (Ok tt)
-all_lines symbols number left shots a b f g s none =
+pub all_lines : (known : Known) (number left : ℕ) (shots : List Shot) (a b : Option (List ℕ)) (f g : ℕ)
+    → Showing known number left shots a b f g → left ≡ 0 → PutsMessages {A = Unit {0}} a b f g (shots_text known number shots) (Ok tt)
+all_lines known number left shots a b f g s none =
     let whole : number - 0 ≡ number = omega arith in
-    let P : ℕ → Type 0 = λ k. Appends a b (shots_text symbols (number - k) (drop k shots)) in
-    let Q : ℕ → Type 0 = λ n. Appends a b (shots_text symbols n shots) in
+    let P : ℕ → Type 0 = λ k. Appends a b (shots_text known (number - k) (drop k shots)) in
+    let Q : ℕ → Type 0 = λ n. Appends a b (shots_text known n shots) in
     (subst Q whole (subst P none s.put), s.sound)
 
 -- if a text can't be written, neither can an equal one

@@ -31,7 +31,7 @@ use Rattle.m11_trace.specs.declared.shots.Shot.{Shot}
 use Rattle.m11_trace.specs.declared.steps.Steps.{Steps}
 use Rattle.m11_trace.specs.declared.stops.Stops.{Stops}
 use Rattle.m11_trace.specs.declared.tracing.Traced.{Traced}
-use Rattle.m11_base_disassembly.specs.declared.symbols.Symbol.{Symbol}
+use Rattle.m11_trace.specs.Known.{Known}
 use Rattle.m11_trace.proofs.Going.{appends_nothing, begins_after, begins_whole, take_none}
 use Rattle.m11_trace.proofs.Reports.{recent_are}
 
@@ -47,10 +47,10 @@ does_started address most m old new y odd e h =
     subst P (sym e) h
 
 -- if the address is odd, no step is made and the run ends with `NoStart`
-pub nothing_started : (address limit : ℕ) (symbols : List Symbol) (first last : ℕ) (stops : Stops) (m : Machine) (d : Devices) (output : Output)
+pub nothing_started : (address limit : ℕ) (known : Known) (first last : ℕ) (stops : Stops) (m : Machine) (d : Devices) (output : Output)
     (recent : List Shot) (steps : Steps) → (address % 2 == 1) ≡ true → steps.ending ≡ Stopped NoStart → steps.count ≡ 0 → recent ≡ []
-    → StepsWithLines (λ most. started address most m) limit symbols first last stops (begun address m) m d d output output recent (Ok steps)
-nothing_started address limit symbols first last stops m d output recent steps odd ending count none =
+    → StepsWithLines (λ most. started address most m) limit known first last stops (begun address m) m d d output output recent (Ok steps)
+nothing_started address limit known first last stops m d output recent steps odd ending count none =
     let same : m ≡ begun address m = ap (λ (b : Bool). cond b m (with_register Pc address m)) (sym odd) in
     let goes : Goes (λ most. started address most m) limit stops (begun address m) d [] (Stopped NoStart) m d = record {
       steps = (same, refl);
@@ -79,30 +79,30 @@ module _ (address limit : ℕ) (stops : Stops) (m m' : Machine) (old new : Devic
       }
 
   -- if the address is even, the steps begin there
-  pub steps_started : (symbols : List Symbol) (first last : ℕ) (start : Machine) (output output' : Output) (recent : List Shot) (result : Result Steps SimFault)
+  pub steps_started : (known : Known) (first last : ℕ) (start : Machine) (output output' : Output) (recent : List Shot) (result : Result Steps SimFault)
       → start ≡ with_register Pc address m
-      → StepsWithLines (λ n. run_counted n start) limit symbols first last stops start m' old new output output' recent result
-      → StepsWithLines (λ n. started address n m) limit symbols first last stops (begun address m) m' old new output output' recent result
-  steps_started symbols first last start output output' recent (Ok steps) e h =
+      → StepsWithLines (λ n. run_counted n start) limit known first last stops start m' old new output output' recent result
+      → StepsWithLines (λ n. started address n m) limit known first last stops (begun address m) m' old new output output' recent result
+  steps_started known first last start output output' recent (Ok steps) e h =
       let P : Machine → Type 0 = λ s. Goes (λ n. run_counted n s) limit stops s old h.0 steps.ending m' new in
       (h.0, goes_started limit h.0 steps.ending (subst P e h.1), h.2, h.3, h.4, h.5)
-  steps_started symbols first last start output output' recent (Err Write) e h =
+  steps_started known first last start output output' recent (Err Write) e h =
       let P : Machine → Type 0 = λ s. Goes (λ n. run_counted n s) h.0 stops s old h.3 h.2 m' new in
       (h.0, h.1, h.2, h.3, goes_started h.0 h.3 h.2 (subst P e h.4), h.5, h.6)
-  steps_started symbols first last start output output' recent (Err NoMemory) e h = absurd h
-  steps_started symbols first last start output output' recent (Err (Load fault)) e h = absurd h
+  steps_started known first last start output output' recent (Err NoMemory) e h = absurd h
+  steps_started known first last start output output' recent (Err (Load fault)) e h = absurd h
 
 -- ---- the steps
 
-pub not_loaded : (request : Request) (symbols : List Symbol) (first last : ℕ) (stops : Stops) (tape tape' : Input) (console : Devices) (written : Output)
+pub not_loaded : (request : Request) (known : Known) (first last : ℕ) (stops : Stops) (tape tape' : Input) (console : Devices) (written : Output)
     (machine m : Machine) (fault : LoadFault) → machine ≡ new_machine request.words
     → LoadsInto tape.text tape'.text tape.faults tape'.faults machine m (Err fault)
-    → TracesSteps request symbols first last stops (run_devices tape console written) (run_devices tape' console written) (Err (Load fault))
-not_loaded request symbols first last stops tape tape' console written machine m fault e h =
+    → TracesSteps request known first last stops (run_devices tape console written) (run_devices tape' console written) (Err (Load fault))
+not_loaded request known first last stops tape tape' console written machine m fault e h =
     let P : Machine → Type 0 = λ n. LoadsInto tape.text tape'.text tape.faults tape'.faults n m (Err fault) in
     (m, subst P e h, refl, refl)
 
-module _ (request : Request) (symbols : List Symbol) (first last : ℕ) (stops : Stops) (before after : RunDevices) (machine loaded m : Machine)
+module _ (request : Request) (known : Known) (first last : ℕ) (stops : Stops) (before after : RunDevices) (machine loaded m : Machine)
     (transfer address : ℕ) (new : machine ≡ new_machine request.words)
     (loads : LoadsInto before.tape.text after.tape.text before.tape.faults after.tape.faults machine loaded (Ok transfer))
     (start : address ≡ unwrap_or request.start transfer) where
@@ -125,9 +125,9 @@ module _ (request : Request) (symbols : List Symbol) (first last : ℕ) (stops :
 
   -- if a trace line can't be written, the steps end with that fault
   pub line_failed : (capacity : ℕ) (recent : List Shot) (fault : SimFault)
-      → StepsWithLines (λ n. started address n loaded) request.limit symbols first capacity stops (begun address loaded) m before.console
+      → StepsWithLines (λ n. started address n loaded) request.limit known first capacity stops (begun address loaded) m before.console
       after.console before.messages after.messages recent (Err fault)
-      → TracesSteps request symbols first last stops before after (Err fault)
+      → TracesSteps request known first last stops before after (Err fault)
   line_failed capacity recent Write h = (
     h.0,
     h.1,
@@ -135,25 +135,25 @@ module _ (request : Request) (symbols : List Symbol) (first last : ℕ) (stops :
     m,
     h.3,
     has_traced h.0 h.3 h.2 h.4,
-    begins_whole before.messages.text after.messages.text (lines_from symbols first h.3) (recent_lines symbols first last h.3) h.5,
+    begins_whole before.messages.text after.messages.text (lines_from known first h.3) (recent_lines known first last h.3) h.5,
     h.6,
   )
   line_failed capacity recent NoMemory h = absurd h
   line_failed capacity recent (Load fault) h = absurd h
 
   module _ (capacity : ℕ) (room : capacity ≡ last) (recent : List Shot) (steps : Steps) (middle : Output)
-      (h : StepsWithLines (λ n. started address n loaded) request.limit symbols first capacity stops (begun address loaded) m before.console
+      (h : StepsWithLines (λ n. started address n loaded) request.limit known first capacity stops (begun address loaded) m before.console
       after.console before.messages middle recent (Ok steps)) where
-    recent_is : cond (nat_lt steps.count first) (shots_text symbols steps.count recent) [] ≡ recent_lines symbols first last h.0
+    recent_is : cond (nat_lt steps.count first) (shots_text known steps.count recent) [] ≡ recent_lines known first last h.0
     recent_is =
         let shots : List Shot = map kept h.0 in
-        recent_are symbols first last steps.count h.0 recent h.2 (h.3 ∙ ap (λ (n : ℕ). take n shots) room)
+        recent_are known first last steps.count h.0 recent h.2 (h.3 ∙ ap (λ (n : ℕ). take n shots) room)
 
     -- if the lines of the last steps are written whole, so are all lines
     pub all_shown : (traced : Traced) → traced.machine ≡ m → traced.steps ≡ steps
         → PutsMessages {A = Unit {0}} middle.text after.messages.text middle.faults after.messages.faults
-        (cond (nat_lt steps.count first) (shots_text symbols steps.count recent) []) (Ok tt)
-        → TracesSteps request symbols first last stops before after (Ok traced)
+        (cond (nat_lt steps.count first) (shots_text known steps.count recent) []) (Ok tt)
+        → TracesSteps request known first last stops before after (Ok traced)
     all_shown traced machine_is steps_is p =
         let P : List ℕ → Type 0 = λ t. Appends middle.text after.messages.text t in
         let Q : Machine → Steps → Type 0 = λ n s. HasTraced request stops before after h.0 s.ending n in
@@ -161,14 +161,14 @@ module _ (request : Request) (symbols : List Symbol) (first last : ℕ) (stops :
           h.0,
           subst R (sym machine_is) (subst (Q m) (sym steps_is) (has_traced request.limit h.0 steps.ending h.1)),
           ap (λ (s : Steps). s.count) steps_is ∙ h.2,
-          Appends-Appends before.messages.text middle.text after.messages.text (lines_from symbols first h.0) _ h.4 (subst P recent_is p.0),
+          Appends-Appends before.messages.text middle.text after.messages.text (lines_from known first h.0) _ h.4 (subst P recent_is p.0),
           p.1 ∙ h.5,
         )
 
     -- if only a prefix of them is written, the steps end with the fault
     pub recent_failed : (fault : SimFault) → PutsMessages {A = Unit {0}} middle.text after.messages.text middle.faults
-        after.messages.faults (cond (nat_lt steps.count first) (shots_text symbols steps.count recent) []) (Err fault)
-        → TracesSteps request symbols first last stops before after (Err fault)
+        after.messages.faults (cond (nat_lt steps.count first) (shots_text known steps.count recent) []) (Err fault)
+        → TracesSteps request known first last stops before after (Err fault)
     recent_failed Write p =
         let P : List ℕ → Type 0 = λ t. AppendsPrefix middle.text after.messages.text t in
         let Q : ℕ → Type 0 = λ n. Rises n after.messages.faults in (
@@ -178,7 +178,7 @@ module _ (request : Request) (symbols : List Symbol) (first last : ℕ) (stops :
           m,
           h.0,
           has_traced request.limit h.0 steps.ending h.1,
-          begins_after before.messages.text middle.text after.messages.text (lines_from symbols first h.0) _ h.4 (subst P recent_is p.0),
+          begins_after before.messages.text middle.text after.messages.text (lines_from known first h.0) _ h.4 (subst P recent_is p.0),
           subst Q h.5 p.1,
         )
     recent_failed NoMemory p = absurd p
@@ -187,15 +187,15 @@ module _ (request : Request) (symbols : List Symbol) (first last : ℕ) (stops :
 -- ---- the whole
 
 -- if the trace lines can't be written, neither can the report
-pub report_failed : (request : Request) (symbols : List Symbol) (first last : ℕ) (stops : Stops) (ranges : List Range) (before after : RunDevices)
-    (fault : SimFault) → TracesSteps request symbols first last stops before after (Err fault)
-    → Traces request symbols first last stops ranges before after (Err fault)
-report_failed request symbols first last stops ranges before after Write h =
+pub report_failed : (request : Request) (known : Known) (first last : ℕ) (stops : Stops) (ranges : List Range) (before after : RunDevices)
+    (fault : SimFault) → TracesSteps request known first last stops before after (Err fault)
+    → Traces request known first last stops ranges before after (Err fault)
+report_failed request known first last stops ranges before after Write h =
     let rest = end_report stops ranges h.4 h.2 h.3 in
-    let whole = begins_whole before.messages.text after.messages.text (step_lines symbols first last h.4) rest h.6 in
+    let whole = begins_whole before.messages.text after.messages.text (step_lines known first last h.4) rest h.6 in
     (h.0, h.1, h.2, h.3, h.4, h.5, whole, h.7)
-report_failed request symbols first last stops ranges before after NoMemory h = h
-report_failed request symbols first last stops ranges before after (Load fault) h = h
+report_failed request known first last stops ranges before after NoMemory h = h
+report_failed request known first last stops ranges before after (Load fault) h = h
 
 -- which steps were made doesn't depend on the output of the lines
 pub with_outputs : (request : Request) (stops : Stops) (tape tape' : Input) (console console' : Devices) (written written' other other' : Output)
@@ -219,9 +219,9 @@ end_is stops ranges traced taken long =
     let to : ℕ → List ℕ = λ n. ending_text stops traced.steps.ending n traced.machine ++ ranges_text traced.machine.memory ranges in
     ap to long
 
-module _ (request : Request) (symbols : List Symbol) (first last : ℕ) (stops : Stops) (ranges : List Range) (tape tape' : Input)
+module _ (request : Request) (known : Known) (first last : ℕ) (stops : Stops) (ranges : List Range) (tape tape' : Input)
     (console console' : Devices) (written middle after : Output) (traced : Traced)
-    (h : TracesSteps request symbols first last stops (run_devices tape console written) (run_devices tape' console' middle) (Ok traced)) where
+    (h : TracesSteps request known first last stops (run_devices tape console written) (run_devices tape' console' middle) (Ok traced)) where
   same_traced : HasTraced request stops (run_devices tape console written) (run_devices tape' console' after) h.0 traced.steps.ending traced.machine
   same_traced =
       with_outputs request stops tape tape' console console' written middle written after h.0 traced.steps.ending traced.machine h.1
@@ -232,20 +232,20 @@ module _ (request : Request) (symbols : List Symbol) (first last : ℕ) (stops :
   -- if the end of the report is written whole, so is the whole report
   pub all_reported : PutsMessages {A = Unit {0}} middle.text after.text middle.faults after.faults
       (stop_text stops traced.steps ranges traced.machine) (Ok tt)
-      → Traces request symbols first last stops ranges (run_devices tape console written) (run_devices tape' console' after) (Ok traced.steps.ending)
+      → Traces request known first last stops ranges (run_devices tape console written) (run_devices tape' console' after) (Ok traced.steps.ending)
   all_reported p =
       let P : List ℕ → Type 0 = λ t. Appends middle.text after.text t in (
         traced.machine,
         h.0,
         same_traced,
-        Appends-Appends written.text middle.text after.text (step_lines symbols first last h.0) _ h.3 (subst P all_is p.0),
+        Appends-Appends written.text middle.text after.text (step_lines known first last h.0) _ h.3 (subst P all_is p.0),
         p.1 ∙ h.4,
       )
 
   -- if only a prefix of the end of the report is written, the run ends with the fault
   pub end_failed : (fault : SimFault) → PutsMessages {A = Unit {0}} middle.text after.text middle.faults after.faults
       (stop_text stops traced.steps ranges traced.machine) (Err fault)
-      → Traces request symbols first last stops ranges (run_devices tape console written) (run_devices tape' console' after) (Err fault)
+      → Traces request known first last stops ranges (run_devices tape console written) (run_devices tape' console' after) (Err fault)
   end_failed Write p =
       let P : List ℕ → Type 0 = λ t. AppendsPrefix middle.text after.text t in
       let Q : ℕ → Type 0 = λ n. Rises n after.faults in (
@@ -255,7 +255,7 @@ module _ (request : Request) (symbols : List Symbol) (first last : ℕ) (stops :
         traced.machine,
         h.0,
         same_traced,
-        begins_after written.text middle.text after.text (step_lines symbols first last h.0) _ h.3 (subst P all_is p.0),
+        begins_after written.text middle.text after.text (step_lines known first last h.0) _ h.3 (subst P all_is p.0),
         subst Q h.4 p.1,
       )
   end_failed NoMemory p = absurd p

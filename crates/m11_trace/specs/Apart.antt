@@ -3,7 +3,7 @@ use Rattle.std.specs.Prelude.{◌≡◌, ℕ, ◌≤◌, List, Result, Ok, Err}
 use Rattle.std.specs.Io.KnownBytes.{Appends}
 use Rattle.m11_base.specs.Devices.{Bytes, Rises}
 use Rattle.m11_base.specs.Sink.{AppendsPrefix}
-use Rattle.m11_base_disassembly.specs.declared.symbols.Symbol.{Symbol}
+use Rattle.m11_trace.specs.Known.{Known}
 use Rattle.m11_cpu.specs.Simulation.{Loaded, Request, RunDevices}
 use Rattle.m11_cpu.specs.declared.fault.SimFault.{SimFault}
 use Rattle.m11_cpu.specs.declared.fault.SimFault.TheVariants.{Load, Write, NoMemory}
@@ -31,25 +31,25 @@ HandsOn old new held text = Appends old.text new.text text × (new.faults ≡ ol
 -- lines after part of them, with the steps of a run of this limit or a lower one, and with nothing reported; or a failure to report the
 -- ending and the ranges after part of them, with all lines handed on; or a fault of the tape, with nothing run, or lack of memory, before
 -- anything was read, both with nothing written. `held` is how many bytes the output of the lines holds back afterwards
-abbrev pub TracesApart : Request → List Symbol → ℕ → ℕ → Stops → List Range → RunDevices → RunDevices → Output → Output → ℕ
+abbrev pub TracesApart : Request → Known → ℕ → ℕ → Stops → List Range → RunDevices → RunDevices → Output → Output → ℕ
     → Result Ending ApartFault → Type 0
-TracesApart request symbols first last stops ranges before after lines lines' held (Ok ending) =
+TracesApart request known first last stops ranges before after lines lines' held (Ok ending) =
     (m : Machine) × (taken : List TracedStep) × HasTraced request stops before after taken ending m
-    × HandsOn lines lines' held (step_lines symbols first last taken)
+    × HandsOn lines lines' held (step_lines known first last taken)
     × Appends before.messages.text after.messages.text (end_report stops ranges taken ending m)
     × (after.messages.faults ≡ before.messages.faults)
-TracesApart request symbols first last stops ranges before after lines lines' held (Err Lines) =
+TracesApart request known first last stops ranges before after lines lines' held (Err Lines) =
     (limit : ℕ) × (limit ≤ request.limit) × (ending : Ending) × (m : Machine) × (taken : List TracedStep)
     × HasTraced (record request { limit = limit }) stops before after taken ending m
-    × AppendsPrefix lines.text lines'.text (step_lines symbols first last taken) × Rises lines.faults lines'.faults
+    × AppendsPrefix lines.text lines'.text (step_lines known first last taken) × Rises lines.faults lines'.faults
     × (after.messages ≡ before.messages)
-TracesApart request symbols first last stops ranges before after lines lines' held (Err (Run Write)) =
+TracesApart request known first last stops ranges before after lines lines' held (Err (Run Write)) =
     (ending : Ending) × (m : Machine) × (taken : List TracedStep) × HasTraced request stops before after taken ending m
-    × HandsOn lines lines' held (step_lines symbols first last taken)
+    × HandsOn lines lines' held (step_lines known first last taken)
     × AppendsPrefix before.messages.text after.messages.text (end_report stops ranges taken ending m)
     × Rises before.messages.faults after.messages.faults
-TracesApart request symbols first last stops ranges before after lines lines' held (Err (Run (Load fault))) =
+TracesApart request known first last stops ranges before after lines lines' held (Err (Run (Load fault))) =
     (m : Machine) × Loaded request.words before.tape after.tape m (Err fault) × (after.console ≡ before.console)
     × (after.messages ≡ before.messages) × (lines' ≡ lines)
-TracesApart request symbols first last stops ranges before after lines lines' held (Err (Run NoMemory)) =
+TracesApart request known first last stops ranges before after lines lines' held (Err (Run NoMemory)) =
     (after.tape ≡ before.tape) × (after.console ≡ before.console) × (after.messages ≡ before.messages) × (lines' ≡ lines)

@@ -1,5 +1,6 @@
 pub mod Shots
 pub mod Changes
+pub mod Known
 pub mod Lines
 pub mod Taken
 pub mod Messages

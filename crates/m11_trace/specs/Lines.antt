@@ -1,16 +1,19 @@
 -- The trace line of a step: its number, the program counter and its name, the instruction there as a line of source, and what the step
--- changed, namely registers, memory words and the processor status word, all separated by tabs. (This project's own; the line of
--- source: MACRO-11 Language Reference Manual, "Assembler statements".)
-use Rattle.std.specs.Prelude.{ℕ, ◌/◌, ◌%◌, ◌==◌, if◌then◌else◌, List, [], ◌∷◌, ◌++◌, codes}
+-- changed, namely registers, memory words and the processor status word, and the line of a listing that shows the instruction, all separated by
+-- tabs. (This project's own; docs/FORMATS.md, "The lines of a trace". The line of source: MACRO-11 Language Reference Manual, "Assembler
+-- statements".)
+use Rattle.std.specs.Prelude.{ℕ, ◌/◌, ◌%◌, ◌==◌, if◌then◌else◌, List, [], ◌∷◌, ◌++◌, codes, Option, Some, None}
 use Rattle.std.specs.Fmt.{decimal}
 use Rattle.m11_base.specs.Devices.{Bytes}
 use Rattle.m11_base.specs.Octal.{octal_text}
 use Rattle.m11_base_disassembly.specs.Instructions.{statement_of}
+use Rattle.m11_base_disassembly.specs.ListedLines.{listed_text}
 use Rattle.m11_base_disassembly.specs.References.{no_references}
 use Rattle.m11_base_disassembly.specs.Symbols.{address_name}
 use Rattle.m11_base_disassembly.specs.Texts.{statement_text}
 use Rattle.m11_cpu_machine.specs.declared.machine.Machine.{Machine}
 use Rattle.m11_trace.specs.Changes.{memory_changes}
+use Rattle.m11_trace.specs.Known.{Known}
 use Rattle.m11_trace.specs.Shots.{numbered, shot_of, words_in}
 use Rattle.m11_trace.specs.declared.shots.Shot.{Shot}
 use Rattle.m11_base_disassembly.specs.declared.symbols.Symbol.{Symbol}
@@ -64,18 +67,29 @@ line_front symbols number shot =
     decimal number ++ (9 ∷ (place_text symbols (location_of shot)
     ++ (9 ∷ (source_text symbols (location_of shot) (words_in shot.fetched) ++ register_changes shot.before.registers shot.later.registers))))
 
+-- the text of the line of a listing that shows this word at a location; None if no word was fetched
+abbrev pub listed_at : Known → ℕ → Option ℕ → Option Bytes
+listed_at known location None = None
+listed_at known location (Some word) = listed_text known.listings location word
+
+-- the field of the text of a line in a listing: a semicolon and the text; nothing if there is none
+abbrev pub listed_field : Option Bytes → Bytes
+listed_field None = []
+listed_field (Some text) = codes "\t;" ++ text
+
 -- the part of a trace line after its memory words
-abbrev pub line_end : Shot → Bytes
-line_end shot = status_change shot.before.psw shot.later.psw ++ 10 ∷ []
+abbrev pub line_end : Known → Shot → Bytes
+line_end known shot = status_change shot.before.psw shot.later.psw
+    ++ (listed_field (listed_at known (location_of shot) shot.fetched.first) ++ 10 ∷ [])
 
 -- the trace line of a step with this number, with this text for its memory words
-abbrev pub line_with : List Symbol → ℕ → Shot → Bytes → Bytes
-line_with symbols number shot memory = line_front symbols number shot ++ (memory ++ line_end shot)
+abbrev pub line_with : Known → ℕ → Shot → Bytes → Bytes
+line_with known number shot memory = line_front known.symbols number shot ++ (memory ++ line_end known shot)
 
 -- a trace line without memory words
-abbrev pub short_line : List Symbol → ℕ → Shot → Bytes
-short_line symbols number shot = line_with symbols number shot []
+abbrev pub short_line : Known → ℕ → Shot → Bytes
+short_line known number shot = line_with known number shot []
 
 -- the trace line of a step from one machine to another
-abbrev pub step_line : List Symbol → ℕ → Machine → Machine → Bytes
-step_line symbols number before later = line_with symbols number (shot_of before later) (memory_changes before.memory later.memory)
+abbrev pub step_line : Known → ℕ → Machine → Machine → Bytes
+step_line known number before later = line_with known number (shot_of before later) (memory_changes before.memory later.memory)

@@ -19,32 +19,32 @@ use Rattle.m11_trace.specs.declared.shots.Shot.{Shot}
 use Rattle.m11_trace.specs.declared.steps.Steps.{Steps}
 use Rattle.m11_trace.specs.declared.tracing.Traced.{Traced}
 use Rattle.m11_trace.specs.declared.stops.Stops.{Stops}
-use Rattle.m11_base_disassembly.specs.declared.symbols.Symbol.{Symbol}
+use Rattle.m11_trace.specs.Known.{Known}
 
 -- traced steps have this ending, their lines were written, and their number and the last `last` of them are recorded; or writing failed
 -- partway through the lines, and the steps are those of a traced run with this limit or a lower one
-abbrev pub StepsWithLines : (ℕ → Dialogue (Ran × Machine)) → ℕ → List Symbol → ℕ → ℕ → Stops → Machine → Machine → Devices → Devices
+abbrev pub StepsWithLines : (ℕ → Dialogue (Ran × Machine)) → ℕ → Known → ℕ → ℕ → Stops → Machine → Machine → Devices → Devices
     → Output → Output → List Shot → Result Steps SimFault → Type 0
-StepsWithLines run limit symbols first last stops m m' old new output output' recent (Ok steps) =
+StepsWithLines run limit known first last stops m m' old new output output' recent (Ok steps) =
     (taken : List TracedStep) × Goes run limit stops m old taken steps.ending m' new × (steps.count ≡ length taken)
     × (recent ≡ take last (map kept taken))
-    × Appends output.text output'.text (lines_from symbols first taken) × (output'.faults ≡ output.faults)
-StepsWithLines run limit symbols first last stops m m' old new output output' recent (Err Write) =
+    × Appends output.text output'.text (lines_from known first taken) × (output'.faults ≡ output.faults)
+StepsWithLines run limit known first last stops m m' old new output output' recent (Err Write) =
     (most : ℕ) × (most ≤ limit) × (ending : Ending) × (taken : List TracedStep) × Goes run most stops m old taken ending m' new
-    × AppendsPrefix output.text output'.text (lines_from symbols first taken) × Rises output.faults output'.faults
-StepsWithLines run limit symbols first last stops m m' old new output output' recent (Err NoMemory) = ⊥
-StepsWithLines run limit symbols first last stops m m' old new output output' recent (Err (Load fault)) = ⊥
+    × AppendsPrefix output.text output'.text (lines_from known first taken) × Rises output.faults output'.faults
+StepsWithLines run limit known first last stops m m' old new output output' recent (Err NoMemory) = ⊥
+StepsWithLines run limit known first last stops m m' old new output output' recent (Err (Load fault)) = ⊥
 
 -- what the steps of a traced run yield: their ending, with their lines written whole; or the run fails, with the lines written in part or
 -- not at all
-abbrev pub TracesSteps : Request → List Symbol → ℕ → ℕ → Stops → RunDevices → RunDevices → Result Traced SimFault → Type 0
-TracesSteps request symbols first last stops before after (Ok traced) =
+abbrev pub TracesSteps : Request → Known → ℕ → ℕ → Stops → RunDevices → RunDevices → Result Traced SimFault → Type 0
+TracesSteps request known first last stops before after (Ok traced) =
     (taken : List TracedStep) × HasTraced request stops before after taken traced.steps.ending traced.machine
     × (traced.steps.count ≡ length taken)
-    × Appends before.messages.text after.messages.text (step_lines symbols first last taken)
+    × Appends before.messages.text after.messages.text (step_lines known first last taken)
     × (after.messages.faults ≡ before.messages.faults)
-TracesSteps request symbols first last stops before after (Err fault) =
-    Fails (λ taken ending m. step_lines symbols first last taken) request stops before after fault
+TracesSteps request known first last stops before after (Err fault) =
+    Fails (λ taken ending m. step_lines known first last taken) request stops before after fault
 
 -- the two lines of the ending, and the memory ranges
 abbrev pub stop_text : Stops → Steps → List Range → Machine → Bytes

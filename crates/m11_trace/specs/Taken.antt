@@ -11,7 +11,7 @@ use Rattle.m11_cpu_machine.specs.declared.stop.Turn.TheVariants.{Next}
 use Rattle.m11_trace.specs.Lines.{short_line, step_line}
 use Rattle.m11_trace.specs.Shots.{shot_of}
 use Rattle.m11_trace.specs.declared.shots.Shot.{Shot}
-use Rattle.m11_base_disassembly.specs.declared.symbols.Symbol.{Symbol}
+use Rattle.m11_trace.specs.Known.{Known}
 
 -- a step: the machine before it, its result and the machine after it
 pub record TracedStep : Type 0 where
@@ -44,17 +44,17 @@ abbrev pub line_from : ℕ → ℕ → Bytes → Bytes
 line_from first number line = if nat_le first number then line else []
 
 -- the trace lines of the steps whose number is `first` or more; the steps are listed latest first, and the earliest has number 1
-abbrev pub lines_from : List Symbol → ℕ → List TracedStep → Bytes
-lines_from symbols first [] = []
-lines_from symbols first (taken ∷ earlier) = lines_from symbols first earlier
-    ++ line_from first (suc (length earlier)) (step_line symbols (suc (length earlier)) taken.before taken.later)
+abbrev pub lines_from : Known → ℕ → List TracedStep → Bytes
+lines_from known first [] = []
+lines_from known first (taken ∷ earlier) = lines_from known first earlier
+    ++ line_from first (suc (length earlier)) (step_line known (suc (length earlier)) taken.before taken.later)
 
 -- the trace lines of recorded steps, without memory words; the steps are listed latest first, and the latest has this number
-abbrev pub shots_text : List Symbol → ℕ → List Shot → Bytes
-shots_text symbols number [] = []
-shots_text symbols number (shot ∷ earlier) = shots_text symbols (number - 1) earlier ++ short_line symbols number shot
+abbrev pub shots_text : Known → ℕ → List Shot → Bytes
+shots_text known number [] = []
+shots_text known number (shot ∷ earlier) = shots_text known (number - 1) earlier ++ short_line known number shot
 
 -- the trace lines of the last `last` steps, if no step has a number of `first` or more; otherwise nothing
-abbrev pub recent_lines : List Symbol → ℕ → ℕ → List TracedStep → Bytes
-recent_lines symbols first last taken =
-    if nat_lt (length taken) first then shots_text symbols (length taken) (take last (map kept taken)) else []
+abbrev pub recent_lines : Known → ℕ → ℕ → List TracedStep → Bytes
+recent_lines known first last taken =
+    if nat_lt (length taken) first then shots_text known (length taken) (take last (map kept taken)) else []

@@ -19,7 +19,7 @@ use Rattle.m11_trace.specs.declared.ending.Ending.{Ending}
 use Rattle.m11_trace.specs.declared.ending.Ending.TheVariants.{Stopped, Reached, Changed}
 use Rattle.m11_trace.specs.declared.ranges.Range.{Range}
 use Rattle.m11_trace.specs.declared.stops.Stops.{Stops}
-use Rattle.m11_base_disassembly.specs.declared.symbols.Symbol.{Symbol}
+use Rattle.m11_trace.specs.Known.{Known}
 
 -- the outcome of the same run without tracing; if a breakpoint or a watched word stopped the traced run, the untraced one stops at
 -- its limit after as many steps
@@ -71,17 +71,17 @@ pub record HasTraced (request : Request) (stops : Stops) (before after : RunDevi
   pub ends : EndsAt ending stops taken request.limit m
 
 -- the trace lines of the steps whose number is `first` or more; or of the last `last` steps, without memory words, if there is no such step
-abbrev pub step_lines : List Symbol → ℕ → ℕ → List TracedStep → Bytes
-step_lines symbols first last taken = lines_from symbols first taken ++ recent_lines symbols first last taken
+abbrev pub step_lines : Known → ℕ → ℕ → List TracedStep → Bytes
+step_lines known first last taken = lines_from known first taken ++ recent_lines known first last taken
 
 -- what is reported at the end: the ending, and the memory ranges
 abbrev pub end_report : Stops → List Range → List TracedStep → Ending → Machine → Bytes
 end_report stops ranges taken ending m = ending_text stops ending (length taken) m ++ ranges_text m.memory ranges
 
 -- the whole report: the trace lines, and then what is reported at the end
-abbrev pub report : List Symbol → ℕ → ℕ → Stops → List Range → List TracedStep → Ending → Machine → Bytes
-report symbols first last stops ranges taken ending m =
-    step_lines symbols first last taken ++ end_report stops ranges taken ending m
+abbrev pub report : Known → ℕ → ℕ → Stops → List Range → List TracedStep → Ending → Machine → Bytes
+report known first last stops ranges taken ending m =
+    step_lines known first last taken ++ end_report stops ranges taken ending m
 
 -- how a traced run fails that writes `text`, which depends on its steps: by a fault of the tape, with nothing run or written; or by a failure
 -- to write the text after part of it, with the steps of a run of this limit or a lower one; or by lack of memory, before anything was
@@ -99,10 +99,10 @@ Fails text request stops before after NoMemory =
     (after.tape ≡ before.tape) × (after.console ≡ before.console) × (after.messages ≡ before.messages)
 
 -- what a whole traced run yields: its ending, with the report written whole; or it fails, with the report written in part or not at all
-abbrev pub Traces : Request → List Symbol → ℕ → ℕ → Stops → List Range → RunDevices → RunDevices → Result Ending SimFault → Type 0
-Traces request symbols first last stops ranges before after (Ok ending) =
+abbrev pub Traces : Request → Known → ℕ → ℕ → Stops → List Range → RunDevices → RunDevices → Result Ending SimFault → Type 0
+Traces request known first last stops ranges before after (Ok ending) =
     (m : Machine) × (taken : List TracedStep) × HasTraced request stops before after taken ending m
-    × Appends before.messages.text after.messages.text (report symbols first last stops ranges taken ending m)
+    × Appends before.messages.text after.messages.text (report known first last stops ranges taken ending m)
     × (after.messages.faults ≡ before.messages.faults)
-Traces request symbols first last stops ranges before after (Err fault) =
-    Fails (report symbols first last stops ranges) request stops before after fault
+Traces request known first last stops ranges before after (Err fault) =
+    Fails (report known first last stops ranges) request stops before after fault

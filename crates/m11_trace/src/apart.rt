@@ -5,13 +5,14 @@ ghost use Rattle.m11_cpu.specs.Simulation.{request_of, run_devices};
 ghost use Rattle.m11_cpu_machine.specs.Dialogue.{both, input_of, output_of};
 ghost use Rattle.m11_cpu_machine.specs.Memory.{least_words, most_words};
 ghost use Rattle.m11_trace.specs.Apart.{TracesApart, fault_of_steps};
+ghost use Rattle.m11_trace.specs.Known.{known_of};
 
 use crate::ending::Ending;
+use crate::known::Known;
 use crate::ranges::Range;
 use crate::stops::Stops;
 use crate::tracing::{put_stop, trace_steps};
 use m11_base::{Feed, Sink};
-use m11_base_disassembly::Symbol;
 use m11_cpu::SimFault;
 use std::alloc::Global;
 
@@ -46,7 +47,7 @@ pub fn trace_apart<T: Feed, I: Feed, O: Sink, L: Sink, M: Sink>(
     start: Option<u16>,
     words: u16,
     limit: u32,
-    symbols: &[Symbol],
+    known: Known<'_>,
     first: u32,
     last: u16,
     stops: &Stops,
@@ -58,7 +59,7 @@ pub fn trace_apart<T: Feed, I: Feed, O: Sink, L: Sink, M: Sink>(
 ) -> Result<Ending, ApartFault>
     requires least { least_words ≤ words }
     requires most { words ≤ most_words }
-    ensures { TracesApart (request_of start words limit) symbols.now first last stops.now ranges.now
+    ensures { TracesApart (request_of start words limit) (known_of known.entry) first last stops.now ranges.now
         (run_devices (input_of (T.text tape.old) (T.faults tape.old))
         (both (I.text input.old) (I.faults input.old) (O.text output.old) (O.faults output.old))
         (output_of (M.text messages.old) (M.faults messages.old)))
@@ -69,7 +70,7 @@ pub fn trace_apart<T: Feed, I: Feed, O: Sink, L: Sink, M: Sink>(
         (L.held lines.new) result }
 {
     let traced = match trace_steps(
-        alloc, tape, start, words, limit, symbols, first, last, stops, input, output, lines,
+        alloc, tape, start, words, limit, known, first, last, stops, input, output, lines,
     ) {
         Ok(traced) => traced,
         Err(fault) => return Err(fault_of_steps(fault)),

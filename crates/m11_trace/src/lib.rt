@@ -9,9 +9,13 @@ mod shots;
 
 pub use shots::{InstructionWords, Shot, View};
 
-// The line of a step.
+// The line of a step, with what is known of addresses.
+mod ends;
+mod known;
 mod line;
 mod lines;
+
+pub use known::Known;
 
 // Steps with their lines, where they stop, and the last of them, which are shown if no line was written.
 mod recent;

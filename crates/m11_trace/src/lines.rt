@@ -1,4 +1,4 @@
-//! The trace lines of steps.
+//! The trace lines of steps, up to their memory words.
 
 ghost use Rattle.std.specs.Prelude.{◌≡◌, ◌≤◌, ◌+◌, ◌∷◌, ◌++◌, [], length};
 ghost use Rattle.arrayvec.specs.ArrayVec.{array_vec_len};
@@ -90,39 +90,6 @@ fn add_registers(line: &mut Line, before: &[u16; 8], later: &[u16; 8])
     add_change(line, b"SP ", sp, sp_later);
 }
 
-// The letter of the condition code with this weight in the processor status word, if that code is set; otherwise a hyphen.
-fn code_letter(psw: u16, weight: u16, letter: u8) -> u8
-    requires { 1 ≤ weight }
-    ensures { result ≡ spec.code_letter psw weight letter }
-{
-    if psw / weight % 2 == 1 { letter } else { b'-' }
-}
-
-// The letters of N, Z, V and C, with a hyphen for each that is clear.
-fn code_letters(psw: u16) -> [u8; 4]
-    ensures { result ≡ spec.code_letters psw }
-{
-    [
-        code_letter(psw, 0o10, b'N'),
-        code_letter(psw, 4, b'Z'),
-        code_letter(psw, 2, b'V'),
-        code_letter(psw, 1, b'C'),
-    ]
-}
-
-// Adds the processor status word, with the letters of its condition codes, if the word changed.
-fn add_status(line: &mut Line, before: u16, later: u16)
-    requires { array_vec_len line.old ≤ 182 }
-    ensures items { line.new.items ≡ line.old.items ++ spec.status_change before later }
-    ensures size { array_vec_len line.new ≤ array_vec_len line.old + 16 }
-{
-    if before != later {
-        add_word(line, b"\tPSW ", later);
-        add(line, b" ");
-        add(line, &code_letters(later));
-    }
-}
-
 /// The part of a trace line before its memory words.
 #[tactic(auto, unfolding(crate::specs::Lines::line_front))]
 pub(crate) fn line_front(symbols: &[Symbol], number: u32, shot: &Shot) -> Line
@@ -137,32 +104,5 @@ pub(crate) fn line_front(symbols: &[Symbol], number: u32, shot: &Shot) -> Line
     add(&mut line, b"\t");
     add_source(&mut line, symbols, location, shot.fetched);
     add_registers(&mut line, &shot.before.registers, &shot.later.registers);
-    line
-}
-
-// Adds the part of a trace line after its memory words.
-fn add_end(line: &mut Line, shot: &Shot)
-    requires { array_vec_len line.old ≤ 180 }
-    ensures { line.new.items ≡ line.old.items ++ spec.line_end shot.now }
-{
-    add_status(line, shot.before.psw, shot.later.psw);
-    add(line, b"\n");
-}
-
-/// The part of a trace line after its memory words.
-pub(crate) fn line_end(shot: &Shot) -> Line
-    ensures { result.items ≡ spec.line_end shot.now }
-{
-    let mut line = Line::new();
-    add_end(&mut line, shot);
-    line
-}
-
-/// The trace line of the step with this number, without memory words.
-pub(crate) fn short_line(symbols: &[Symbol], number: u32, shot: &Shot) -> Line
-    ensures { result.items ≡ spec.short_line symbols.now number shot.now }
-{
-    let mut line = line_front(symbols, number, shot);
-    add_end(&mut line, shot);
     line
 }

@@ -7,6 +7,7 @@ ghost use Rattle.m11_cpu_machine.specs.Dialogue.{Does, both, output_of};
 ghost use Rattle.m11_cpu_machine.specs.Memory.{bytes_of, most_words};
 ghost use Rattle.m11_cpu_machine.specs.Steps.{step};
 ghost use Rattle.m11_trace.specs.Changes.{HaveSameWords, CopyMatches, memory_changes};
+ghost use Rattle.m11_trace.specs.Known.{known_of};
 ghost use Rattle.m11_trace.specs.Lines.{line_end, line_with};
 ghost use Rattle.m11_trace.specs.Shots.{shot_of};
 ghost use Rattle.m11_trace.specs.Stepping.{StepsWithLines};
@@ -14,14 +15,15 @@ ghost use Rattle.m11_trace.specs.Taken.{line_from};
 
 use crate::changes::{copy_words, put_changes};
 use crate::ending::Ending;
+use crate::ends::put_end;
+use crate::known::Known;
 use crate::line::put_text;
-use crate::lines::{line_end, line_front};
+use crate::lines::line_front;
 use crate::recent::{Recent, keep};
 use crate::shots::{Shot, counter_of, fetched_at, view_of};
 use crate::stops::{CountedAddress, Stops, count_down, is_due};
 use crate::watches::{Watch, count_changes, look, stopping_address};
 use m11_base::{Feed, Sink};
-use m11_base_disassembly::Symbol;
 use m11_cpu::{Machine, Memory, SimFault, Stop, Turn};
 
 /// The outcome of traced steps.
@@ -70,24 +72,25 @@ fn ready(first: u32, count: u32, before: &mut [u16], memory: &Memory)
 // Writes the memory words that a step changed and the end of its trace line, and updates the copy of the memory in `before`.
 fn put_rest<M: Sink>(
     messages: &mut M,
+    known: Known<'_>,
     shot: &Shot,
     before: &mut [u16],
     memory: &Memory,
 ) -> Result<(), SimFault>
     requires { length before.old ≡ most_words }
     ensures puts { PutsMessages (M.text messages.old) (M.text messages.new) (M.faults messages.old) (M.faults messages.new)
-        (memory_changes (bytes_of before.old) memory.now ++ line_end shot.now) result }
+        (memory_changes (bytes_of before.old) memory.now ++ line_end (known_of known.entry) shot.now) result }
     ensures size { length before.new ≡ most_words }
     ensures same { OnOk result (HaveSameWords (bytes_of before.new) memory.now) }
 {
     put_changes(messages, before, memory)?;
-    put_text(messages, line_end(shot).as_slice())
+    put_end(messages, known, shot)
 }
 
 // Writes the trace line of a step, and updates the copy of the memory in `before`.
 fn put_line<M: Sink>(
     messages: &mut M,
-    symbols: &[Symbol],
+    known: Known<'_>,
     number: u32,
     shot: &Shot,
     before: &mut [u16],
@@ -95,18 +98,18 @@ fn put_line<M: Sink>(
 ) -> Result<(), SimFault>
     requires { length before.old ≡ most_words }
     ensures puts { PutsMessages (M.text messages.old) (M.text messages.new) (M.faults messages.old) (M.faults messages.new)
-        (line_with symbols.now number shot.now (memory_changes (bytes_of before.old) memory.now)) result }
+        (line_with (known_of known.entry) number shot.now (memory_changes (bytes_of before.old) memory.now)) result }
     ensures size { length before.new ≡ most_words }
     ensures same { OnOk result (HaveSameWords (bytes_of before.new) memory.now) }
 {
-    put_text(messages, line_front(symbols, number, shot).as_slice())?;
-    put_rest(messages, shot, before, memory)
+    put_text(messages, line_front(known.symbols, number, shot).as_slice())?;
+    put_rest(messages, known, shot, before, memory)
 }
 
 // Writes the trace line of a step, and updates the copy of the memory in `before`, if the step's number is `first` or more.
 fn put_line_from<M: Sink>(
     messages: &mut M,
-    symbols: &[Symbol],
+    known: Known<'_>,
     first: u32,
     number: u32,
     shot: &Shot,
@@ -115,18 +118,18 @@ fn put_line_from<M: Sink>(
 ) -> Result<(), SimFault>
     requires { length before.old ≡ most_words }
     ensures puts { PutsMessages (M.text messages.old) (M.text messages.new) (M.faults messages.old) (M.faults messages.new)
-        (line_from first number (line_with symbols.now number shot.now (memory_changes (bytes_of before.old) memory.now))) result }
+        (line_from first number (line_with (known_of known.entry) number shot.now (memory_changes (bytes_of before.old) memory.now))) result }
     ensures size { length before.new ≡ most_words }
     ensures same { OnOk result (CopyMatches first number before.new memory.now) }
 {
     if first > number {
         return Ok(());
     }
-    put_line(messages, symbols, number, shot, before, memory)
+    put_line(messages, known, number, shot, before, memory)
 }
 
 /// Makes at most `limit` steps, up to a stop of the machine or one of `stops`, and writes a trace line for each step whose number is
-/// `first` or more, with names from `symbols`. `before` has room for a copy of the memory, which is made before the first step that has
+/// `first` or more, with what is `known` of addresses. `before` has room for a copy of the memory, which is made before the first step that has
 /// a line and updated with each line. `waiting` has the breakpoints, whose counts are lowered as the program counter reaches them;
 /// `watches` has room for the watched words. `recent` then has the last steps. Allocates no memory.
 ///
@@ -134,7 +137,7 @@ fn put_line_from<M: Sink>(
 pub(crate) fn steps_with_lines<I: Feed, O: Sink, M: Sink>(
     machine: &mut Machine,
     limit: u32,
-    symbols: &[Symbol],
+    known: Known<'_>,
     first: u32,
     stops: &Stops,
     waiting: &mut [CountedAddress],
@@ -149,7 +152,7 @@ pub(crate) fn steps_with_lines<I: Feed, O: Sink, M: Sink>(
     requires room { length watches.old ≡ length stops.now.watched.items }
     requires none { recent.old.items ≡ [] }
     requires size { length before.old ≡ most_words }
-    ensures { StepsWithLines (λ most. run_counted most machine.old) limit symbols.now first recent.old.capacity stops.now machine.old machine.new
+    ensures { StepsWithLines (λ most. run_counted most machine.old) limit (known_of known.entry) first recent.old.capacity stops.now machine.old machine.new
         (both (I.text input.old) (I.faults input.old) (O.text output.old) (O.faults output.old))
         (both (I.text input.new) (I.faults input.new) (O.text output.new) (O.faults output.new))
         (output_of (M.text messages.old) (M.faults messages.old)) (output_of (M.text messages.new) (M.faults messages.new))
@@ -171,7 +174,7 @@ pub(crate) fn steps_with_lines<I: Feed, O: Sink, M: Sink>(
         count += 1;
         put_line_from(
             messages,
-            symbols,
+            known,
             first,
             count,
             &shot,

@@ -5,12 +5,14 @@ ghost use Rattle.m11_cpu.specs.Messages.{PutsMessages};
 ghost use Rattle.m11_cpu.specs.Simulation.{request_of, run_devices, started};
 ghost use Rattle.m11_cpu_machine.specs.Dialogue.{both, input_of, output_of};
 ghost use Rattle.m11_cpu_machine.specs.Memory.{least_words, most_words};
+ghost use Rattle.m11_trace.specs.Known.{known_of};
 ghost use Rattle.m11_trace.specs.Stepping.{StepsWithLines, TracesSteps, stop_text};
 ghost use Rattle.m11_trace.specs.Taken.{begun};
 ghost use Rattle.m11_trace.specs.Tracing.{Traces};
 
 use crate::changes::MOST_WORDS;
 use crate::ending::Ending;
+use crate::known::Known;
 use crate::messages::put_ending;
 use crate::ranges::{Range, put_ranges};
 use crate::recent::{Recent, put_recent};
@@ -19,7 +21,6 @@ use crate::stops::{CountedAddress, Stops};
 use crate::watches::Watch;
 use circular_buffer::HeapCircularBuffer;
 use m11_base::{Feed, Sink};
-use m11_base_disassembly::Symbol;
 use m11_cpu::{Machine, SimFault, Stop};
 use std::alloc::Global;
 
@@ -40,9 +41,9 @@ pub(crate) struct Traced {
 /// `m11_cpu::sim_run` with the number of steps made as its limit.
 ///
 /// The trace line of each step whose number is `first` or more is written to `messages` as soon as the step is made. It also shows the
-/// step's address as an offset from the nearest of `symbols` at or below it, if there is one. If the run has fewer than `first` steps,
-/// the trace lines of the last `last` steps follow at the end, without memory words. Then come the two lines of the ending and the words
-/// of `ranges`.
+/// step's address as an offset from the nearest of the `known` names at or below it, if there is one, and the text of the line that shows
+/// its instruction, if exactly one line of the `known` listings does. If the run has fewer than `first` steps, the trace lines of the last
+/// `last` steps follow at the end, without memory words. Then come the two lines of the ending and the words of `ranges`.
 ///
 /// Errors: `NoMemory`, if memory was refused, before anything was read; `Load`, if the tape couldn't be loaded, so that nothing was run;
 /// `Write`, if `messages` failed after part of the report was written; no step is made after that. Memory is allocated only for the
@@ -53,7 +54,7 @@ pub fn trace_run<T: Feed, I: Feed, O: Sink, M: Sink>(
     start: Option<u16>,
     words: u16,
     limit: u32,
-    symbols: &[Symbol],
+    known: Known<'_>,
     first: u32,
     last: u16,
     stops: &Stops,
@@ -64,7 +65,7 @@ pub fn trace_run<T: Feed, I: Feed, O: Sink, M: Sink>(
 ) -> Result<Ending, SimFault>
     requires least { least_words ≤ words }
     requires most { words ≤ most_words }
-    ensures { Traces (request_of start words limit) symbols.now first last stops.now ranges.now
+    ensures { Traces (request_of start words limit) (known_of known.entry) first last stops.now ranges.now
         (run_devices (input_of (T.text tape.old) (T.faults tape.old))
         (both (I.text input.old) (I.faults input.old) (O.text output.old) (O.faults output.old))
         (output_of (M.text messages.old) (M.faults messages.old)))
@@ -74,7 +75,7 @@ pub fn trace_run<T: Feed, I: Feed, O: Sink, M: Sink>(
         result }
 {
     let traced = trace_steps(
-        alloc, tape, start, words, limit, symbols, first, last, stops, input, output, messages,
+        alloc, tape, start, words, limit, known, first, last, stops, input, output, messages,
     )?;
     put_stop(messages, stops, &traced.steps, ranges, &traced.machine)?;
     Ok(traced.steps.ending)
@@ -87,7 +88,7 @@ pub(crate) fn trace_steps<T: Feed, I: Feed, O: Sink, M: Sink>(
     start: Option<u16>,
     words: u16,
     limit: u32,
-    symbols: &[Symbol],
+    known: Known<'_>,
     first: u32,
     last: u16,
     stops: &Stops,
@@ -97,7 +98,7 @@ pub(crate) fn trace_steps<T: Feed, I: Feed, O: Sink, M: Sink>(
 ) -> Result<Traced, SimFault>
     requires least { least_words ≤ words }
     requires most { words ≤ most_words }
-    ensures { TracesSteps (request_of start words limit) symbols.now first last stops.now
+    ensures { TracesSteps (request_of start words limit) (known_of known.entry) first last stops.now
         (run_devices (input_of (T.text tape.old) (T.faults tape.old))
         (both (I.text input.old) (I.faults input.old) (O.text output.old) (O.faults output.old))
         (output_of (M.text messages.old) (M.faults messages.old)))
@@ -116,7 +117,7 @@ pub(crate) fn trace_steps<T: Feed, I: Feed, O: Sink, M: Sink>(
         &mut machine,
         start.unwrap_or(transfer.address),
         limit,
-        symbols,
+        known,
         first,
         stops,
         &mut waiting,
@@ -127,7 +128,7 @@ pub(crate) fn trace_steps<T: Feed, I: Feed, O: Sink, M: Sink>(
         output,
         messages,
     )?;
-    put_recent(messages, symbols, first, steps.count, &recent)?;
+    put_recent(messages, known, first, steps.count, &recent)?;
     Ok(Traced { machine, steps })
 }
 
@@ -136,7 +137,7 @@ fn started<I: Feed, O: Sink, M: Sink>(
     machine: &mut Machine,
     address: u16,
     limit: u32,
-    symbols: &[Symbol],
+    known: Known<'_>,
     first: u32,
     stops: &Stops,
     waiting: &mut [CountedAddress],
@@ -151,7 +152,7 @@ fn started<I: Feed, O: Sink, M: Sink>(
     requires room { length watches.old ≡ length stops.now.watched.items }
     requires size { length before.old ≡ most_words }
     requires none { recent.old.items ≡ [] }
-    ensures { StepsWithLines (λ most. started address most machine.old) limit symbols.now first recent.old.capacity stops.now
+    ensures { StepsWithLines (λ most. started address most machine.old) limit (known_of known.entry) first recent.old.capacity stops.now
         (begun address machine.old) machine.new
         (both (I.text input.old) (I.faults input.old) (O.text output.old) (O.faults output.old))
         (both (I.text input.new) (I.faults input.new) (O.text output.new) (O.faults output.new))
@@ -166,7 +167,7 @@ fn started<I: Feed, O: Sink, M: Sink>(
     }
     machine.start_at(address);
     steps_with_lines(
-        machine, limit, symbols, first, stops, waiting, watches, before, recent, input, output,
+        machine, limit, known, first, stops, waiting, watches, before, recent, input, output,
         messages,
     )
 }

@@ -1,12 +1,13 @@
 use Rattle.std.proofs.Common.{Err, subst}
 use Rattle.m11_cpu.specs.Simulation.{request_of}
 use Rattle.m11_cpu_machine.specs.Dialogue.{both, input_of, output_of}
+use Rattle.m11_trace.specs.Known.{known_of}
 use Rattle.m11_trace.proofs.Separate.{all_apart, flush_failed, report_apart_failed, steps_failed}
 use Rattle.m11_trace.proofs.apart.trace_apart.Goals as goal
 
 pub returns-in-Err : goal.returns-in-Err
 returns-in-Err g c =
-    rw c.fault_of_steps.ensures (steps_failed (request_of c.args.start c.args.words c.args.limit) c.args.symbols.now c.args.first c.args.last c.args.stops.now c.args.ranges.now
+    rw c.fault_of_steps.ensures (steps_failed (request_of c.args.start c.args.words c.args.limit) (known_of c.args.known) c.args.first c.args.last c.args.stops.now c.args.ranges.now
     (input_of (g.T.Feed.text c.args.tape.now) (g.T.Feed.faults c.args.tape.now))
     (input_of (g.T.Feed.text c.trace_steps.new.tape) (g.T.Feed.faults c.trace_steps.new.tape))
     (both (g.I.Feed.text c.args.input.now) (g.I.Feed.faults c.args.input.now) (g.O.Sink.text c.args.output.now) (g.O.Sink.faults c.args.output.now))
@@ -18,7 +19,7 @@ returns-in-Err g c =
 
 pub returns-in-Err-flush : goal.returns-in-Err-flush
 returns-in-Err-flush g c =
-    flush_failed (request_of c.args.start c.args.words c.args.limit) c.args.symbols.now c.args.first c.args.last c.args.stops.now c.args.ranges.now
+    flush_failed (request_of c.args.start c.args.words c.args.limit) (known_of c.args.known) c.args.first c.args.last c.args.stops.now c.args.ranges.now
     (input_of (g.T.Feed.text c.args.tape.now) (g.T.Feed.faults c.args.tape.now))
     (input_of (g.T.Feed.text c.trace_steps.new.tape) (g.T.Feed.faults c.trace_steps.new.tape))
     (both (g.I.Feed.text c.args.input.now) (g.I.Feed.faults c.args.input.now) (g.O.Sink.text c.args.output.now) (g.O.Sink.faults c.args.output.now))
@@ -30,7 +31,7 @@ returns-in-Err-flush g c =
 
 pub returns-in-Ok-put_stop : goal.returns-in-Ok-put_stop
 returns-in-Ok-put_stop g c =
-    all_apart (request_of c.args.start c.args.words c.args.limit) c.args.symbols.now c.args.first c.args.last c.args.stops.now c.args.ranges.now
+    all_apart (request_of c.args.start c.args.words c.args.limit) (known_of c.args.known) c.args.first c.args.last c.args.stops.now c.args.ranges.now
     (input_of (g.T.Feed.text c.args.tape.now) (g.T.Feed.faults c.args.tape.now))
     (input_of (g.T.Feed.text c.trace_steps.new.tape) (g.T.Feed.faults c.trace_steps.new.tape))
     (both (g.I.Feed.text c.args.input.now) (g.I.Feed.faults c.args.input.now) (g.O.Sink.text c.args.output.now) (g.O.Sink.faults c.args.output.now))
@@ -43,7 +44,7 @@ returns-in-Ok-put_stop g c =
 
 pub returns : goal.returns
 returns g c =
-    report_apart_failed (request_of c.args.start c.args.words c.args.limit) c.args.symbols.now c.args.first c.args.last c.args.stops.now c.args.ranges.now
+    report_apart_failed (request_of c.args.start c.args.words c.args.limit) (known_of c.args.known) c.args.first c.args.last c.args.stops.now c.args.ranges.now
     (input_of (g.T.Feed.text c.args.tape.now) (g.T.Feed.faults c.args.tape.now))
     (input_of (g.T.Feed.text c.trace_steps.new.tape) (g.T.Feed.faults c.trace_steps.new.tape))
     (both (g.I.Feed.text c.args.input.now) (g.I.Feed.faults c.args.input.now) (g.O.Sink.text c.args.output.now) (g.O.Sink.faults c.args.output.now))

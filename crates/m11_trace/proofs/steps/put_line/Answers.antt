@@ -2,6 +2,7 @@ use Rattle.std.proofs.Common.{◌∙◌, ◌++◌}
 use Rattle.std.proofs.lemmas.Result.{err_from_is_err_and}
 use Rattle.m11_cpu_machine.specs.Memory.{bytes_of}
 use Rattle.m11_trace.specs.Changes.{memory_changes}
+use Rattle.m11_trace.specs.Known.{known_of}
 use Rattle.m11_trace.specs.Lines.{line_end}
 use Rattle.m11_trace.proofs.Reports.{puts_part, puts_same, puts_then}
 use Rattle.m11_trace.proofs.steps.put_line.Goals as goal
@@ -12,7 +13,7 @@ returns-in_err-put_text-clause-puts g c =
     let r = c.from_residual in
     let p = err_from_is_err_and r.result r.ensures.1 in
     rw (p.1, p.2)
-    (puts_part _ _ _ _ _ (memory_changes (bytes_of c.args.before.now) c.args.memory.now ++ line_end c.args.shot.now) _
+    (puts_part _ _ _ _ _ (memory_changes (bytes_of c.args.before.now) c.args.memory.now ++ line_end (known_of c.args.known) c.args.shot.now) _
     (puts_same _ _ _ _ _ _ _ text c.in_err-put_text.ensures))
 
 pub returns-clause-puts : goal.returns-clause-puts

@@ -2,6 +2,7 @@ use Rattle.std.proofs.Common.{ℕ, ◌+◌, ◌∙◌, List, [], map, refl, sym,
 use Rattle.std.proofs.lemmas.Result.{err_from_is_err_and}
 use Rattle.m11_cpu_machine.specs.Dialogue.{output_of}
 use Rattle.m11_cpu_machine.specs.declared.stop.Turn.TheVariants.{Next, Stopped}
+use Rattle.m11_trace.specs.Known.{known_of}
 use Rattle.m11_trace.specs.Watches.{watch_of}
 use Rattle.m11_trace.specs.declared.stops.CountedAddress.{CountedAddress}
 use Rattle.m11_trace.specs.declared.watches.Watch.{Watch}
@@ -41,7 +42,7 @@ pub returns-in_err-put_line_from : goal.returns-in_err-put_line_from
 returns-in_err-put_line_from g c =
     let r = c.from_residual in
     let p = err_from_is_err_and r.result r.ensures.1 in
-    let line = line_is _ _ _ _ _ _ _ c.steps.machine c.record_step-turn.new.machine c.memory-in-steps.ensures c.memory-in-steps-2.ensures c.record_step-turn.ensures.shot (λ le. c.ready.ensures.same le (keeps_up c.args.first c.steps.count c.steps.before _ _ (sym c.memory-in-steps.ensures) c.steps.invariant.4)) in
+    let line = line_is (known_of c.args.known) _ _ _ _ _ _ c.steps.machine c.record_step-turn.new.machine c.memory-in-steps.ensures c.memory-in-steps-2.ensures c.record_step-turn.ensures.shot (λ le. c.ready.ensures.same le (keeps_up c.args.first c.steps.count c.steps.before _ _ (sym c.memory-in-steps.ensures) c.steps.invariant.4)) in
     rw (p.1, p.2)
     (not_put _ _ _ _ _ _ _ _ _ _ _ _ c.steps.invariant.0 _ c.steps.recent.items _
     (output_of (g.M.Sink.text c.steps.messages) (g.M.Sink.faults c.steps.messages)) _ _ _ _
@@ -51,7 +52,7 @@ returns-in_err-put_line_from g c =
 pub returns-in-Stopped : goal.returns-in-Stopped
 returns-in-Stopped g c =
     let taken = c.steps.invariant.0 in
-    let line = line_is _ _ _ _ _ _ _ c.steps.machine c.record_step-turn.new.machine c.memory-in-steps.ensures c.memory-in-steps-2.ensures c.record_step-turn.ensures.shot (λ le. c.ready.ensures.same le (keeps_up c.args.first c.steps.count c.steps.before _ _ (sym c.memory-in-steps.ensures) c.steps.invariant.4)) in
+    let line = line_is (known_of c.args.known) _ _ _ _ _ _ c.steps.machine c.record_step-turn.new.machine c.memory-in-steps.ensures c.memory-in-steps-2.ensures c.record_step-turn.ensures.shot (λ le. c.ready.ensures.same le (keeps_up c.args.first c.steps.count c.steps.before _ _ (sym c.memory-in-steps.ensures) c.steps.invariant.4)) in
     let put = c.in_ok-put_line_from.ensures.puts in
     let going =
     one_made _ _ _ _ _ _ _ taken c.steps.invariant.1 c.steps.invariant.3 _ _ _ c.steps-test.true (stops_at taken c.args.stops.now c.steps.waiting c.steps.invariant.5 c.counter_of-address.result c.steps.machine _ _ c.counter_of-address.ensures c.is_due.ensures c.if-is_due.false)
@@ -72,7 +73,7 @@ returns-in-Stopped g c =
 pub returns-in-Some : goal.returns-in-Some
 returns-in-Some g c =
     let taken = c.steps.invariant.0 in
-    let line = line_is _ _ _ _ _ _ _ c.steps.machine c.record_step-turn.new.machine c.memory-in-steps.ensures c.memory-in-steps-2.ensures c.record_step-turn.ensures.shot (λ le. c.ready.ensures.same le (keeps_up c.args.first c.steps.count c.steps.before _ _ (sym c.memory-in-steps.ensures) c.steps.invariant.4)) in
+    let line = line_is (known_of c.args.known) _ _ _ _ _ _ c.steps.machine c.record_step-turn.new.machine c.memory-in-steps.ensures c.memory-in-steps-2.ensures c.record_step-turn.ensures.shot (λ le. c.ready.ensures.same le (keeps_up c.args.first c.steps.count c.steps.before _ _ (sym c.memory-in-steps.ensures) c.steps.invariant.4)) in
     let put = c.in_ok-put_line_from.ensures.puts in
     let going =
     one_made _ _ _ _ _ _ _ taken c.steps.invariant.1 c.steps.invariant.3 _ _ _ c.steps-test.true (stops_at taken c.args.stops.now c.steps.waiting c.steps.invariant.5 c.counter_of-address.result c.steps.machine _ _ c.counter_of-address.ensures c.is_due.ensures c.if-is_due.false)
@@ -93,7 +94,7 @@ returns-in-Some g c =
 pub steps-preserved : goal.steps-preserved
 steps-preserved g c =
     let taken = c.steps.invariant.0 in
-    let line = line_is _ _ _ _ _ _ _ c.steps.machine c.record_step-turn.new.machine c.memory-in-steps.ensures c.memory-in-steps-2.ensures c.record_step-turn.ensures.shot (λ le. c.ready.ensures.same le (keeps_up c.args.first c.steps.count c.steps.before _ _ (sym c.memory-in-steps.ensures) c.steps.invariant.4)) in
+    let line = line_is (known_of c.args.known) _ _ _ _ _ _ c.steps.machine c.record_step-turn.new.machine c.memory-in-steps.ensures c.memory-in-steps-2.ensures c.record_step-turn.ensures.shot (λ le. c.ready.ensures.same le (keeps_up c.args.first c.steps.count c.steps.before _ _ (sym c.memory-in-steps.ensures) c.steps.invariant.4)) in
     let put = c.in_ok-put_line_from.ensures.puts in (
       _,
       one_made _ _ _ _ _ _ _ taken c.steps.invariant.1 c.steps.invariant.3 _ _ _ c.steps-test.true (stops_at taken c.args.stops.now c.steps.waiting c.steps.invariant.5 c.counter_of-address.result c.steps.machine _ _ c.counter_of-address.ensures c.is_due.ensures c.if-is_due.false)
