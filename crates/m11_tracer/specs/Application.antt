@@ -1,7 +1,7 @@
 -- The command line, in terms of `clap`'s definitions: the options of `m11 sim` and some more. (This project's own.)
 use Rattle.std.specs.Prelude.{ℕ, Some, codes, pos}
-use Rattle.clap.specs.Words.{App, Rule, new_app, with_rule}
-use Rattle.clap.specs.declared.builder.action.ArgAction.TheVariants.{Append}
+use Rattle.clap.specs.Words.{App, Rule, new_app, new_rule, with_rule}
+use Rattle.clap.specs.declared.builder.action.ArgAction.TheVariants.{Append, SetTrue}
 use Rattle.clap.specs.declared.builder.value_parser.ValueParser.TheVariants.{Signed}
 use Rattle.m11_cli_tasks.specs.Commands.{bottom_rule, most_steps, option_rule, start_rule, steps_rule, tape_rule, words_rule}
 
@@ -38,9 +38,18 @@ range_rule = record (option_rule (codes "range") 0o162) { action = Some Append }
 abbrev pub symbols_rule : Rule
 symbols_rule = record (option_rule (codes "symbols") 0o171) { action = Some Append }
 
+-- `-t`, `--text`: show the text of each step's line in the listings
+abbrev pub text_rule : Rule
+text_rule = record (new_rule (codes "text")) {
+  short = Some 0o164;
+  long = Some (codes "text");
+  action = Some SetTrue;
+}
+
 -- `m11-trace [-n STEPS] [-s OCTAL] [-k WORDS] [-f FROM] [-l LAST] [-o FILE] [-p PLACE[:COUNT]]... [-w PLACE[:COUNT]]... [-r FIRST[:LAST]]...
--- [-y NAMES]... [-b OCTAL] TAPE`
+-- [-y NAMES]... [-t] [-b OCTAL] TAPE`
 abbrev pub application : App
 application =
-    with_rule (with_rule (with_rule (with_rule (with_rule (with_rule (with_rule (with_rule (with_rule (with_rule (with_rule (with_rule
-    (new_app (codes "m11-trace")) steps_rule) start_rule) words_rule) from_rule) last_rule) lines_rule) breakpoint_rule) watch_rule) range_rule) symbols_rule) bottom_rule) tape_rule
+    with_rule (with_rule (with_rule (with_rule (with_rule (with_rule (with_rule (with_rule (with_rule (with_rule (with_rule (with_rule (with_rule
+    (new_app (codes "m11-trace")) steps_rule) start_rule) words_rule) from_rule) last_rule) lines_rule) breakpoint_rule) watch_rule) range_rule) symbols_rule)
+    text_rule) bottom_rule) tape_rule

@@ -1,7 +1,10 @@
 -- What a command line asks for. (This project's own.)
-use Rattle.std.specs.Prelude.{◌≡◌, ◌+◌, ◌==◌, if◌then◌else◌, ℕ, List, [], Option, None, option_map, Result, Ok, Err, codes, unwrap_or}
+use Rattle.std.specs.Prelude.{◌≡◌, ◌+◌, ◌==◌, if◌then◌else◌, ℕ, List, [], Option, Some, None, option_map, Result, Ok, Err, codes, unwrap_or}
 use Rattle.std.specs.Result.{result_and}
+use Rattle.std.specs.Str.{bytes_eq}
 use Rattle.clap.specs.Words.{Row, Text, all_of, first_of, one_of}
+use Rattle.m11_base_disassembly.specs.declared.kept.Kept.{Kept}
+use Rattle.m11_base_disassembly.specs.declared.kept.Kept.TheVariants.{Names, NamesAndLines}
 use Rattle.m11_cli_tasks.specs.Commands.{most_steps}
 use Rattle.m11_cli_tasks.specs.Opened.{texts}
 use Rattle.m11_cli_tasks.specs.Plans as tasks
@@ -46,6 +49,11 @@ first_shown rows = if last_or 0 rows == 0 then number_or 0 0 most_steps (one_of 
 abbrev pub last_shown : List Row → ℕ
 last_shown rows = last_or 16 rows
 
+-- what is kept of the files of names: the lines of listings too, if the option for their texts is given. The parser then stores `true` for it
+abbrev pub kept_by : Option Text → Kept
+kept_by None = Names
+kept_by (Some text) = if bytes_eq text (codes "true") then NamesAndLines else Names
+
 -- the words of options are looked at in this order: the start, the breakpoints, the words to watch, the memory ranges, the bottom. None is
 -- refused, or this is the first one that is. Names aren't looked up yet
 abbrev pub in_order : List Row → Result ℕ RefusedWord
@@ -54,7 +62,7 @@ in_order rows = result_and (start_by rows) (result_and (asked_in_order None (val
 -- the traced run that the parsed options ask for: the run is that of `m11 sim`; `from` gives the first step with a trace line, and `last`
 -- says that only so many of the last ones have lines; `output` gives the file for the lines; `place` gives the values of the breakpoints,
 -- `watch` those of the words to watch, `range` those of the memory ranges, each in order, and none of them is refused whatever their names
--- mean; `symbols` gives the files of names, in order, and `bottom` where the relocatable sections of listings and objects begin
+-- mean; `symbols` gives the files of names, in order, `text` says whether their lines are kept, and `bottom` where the relocatable sections of listings and objects begin
 pub record IsTraceTask (rows : List Row) (task : TraceTask) : Type 0 where
   pub sim : IsSimTask rows task.sim
   pub first : task.from ≡ first_shown rows
@@ -63,6 +71,7 @@ pub record IsTraceTask (rows : List Row) (task : TraceTask) : Type 0 where
   pub values : value_texts task.values ≡ values_of rows
   pub checked : (ranges : List Range) × (asked_in_order None (value_texts task.values) ≡ Ok ranges)
   pub names : texts task.names.items ≡ unwrap_or (all_of (codes "symbols") rows) []
+  pub kept : task.kept ≡ kept_by (first_of (codes "text") rows)
   pub bottom : bottom_by rows ≡ Ok task.bottom
 
 -- the parsed options ask for this run; or this is the first word of an option that is refused; or memory was refused

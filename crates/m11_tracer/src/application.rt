@@ -2,7 +2,7 @@
 
 ghost use Rattle.std.specs.Prelude.{IfOk};
 ghost use Rattle.m11_cli_tasks.specs.Commands.{IsArgument, IsCommand, bottom_rule};
-ghost use Rattle.m11_tracer.specs.Application.{application, breakpoint_rule, from_rule, last_rule, lines_rule, range_rule, symbols_rule, watch_rule};
+ghost use Rattle.m11_tracer.specs.Application.{application, breakpoint_rule, from_rule, last_rule, lines_rule, range_rule, symbols_rule, text_rule, watch_rule};
 
 use clap::{Arg, ArgAction, Command, value_parser};
 use m11_cli_tasks::{
@@ -12,7 +12,7 @@ use m11_cli_tasks::{
 use std::alloc::{AllocError, Global};
 
 /// The command line `m11-trace [-n STEPS] [-s OCTAL] [-k WORDS] [-f FROM] [-l LAST] [-o FILE]
-/// [-p OCTAL[:COUNT]]... [-w OCTAL[:COUNT]]... [-r FIRST[:LAST]]... [-y NAMES]... [-b OCTAL] TAPE`. Error: memory was refused.
+/// [-p OCTAL[:COUNT]]... [-w OCTAL[:COUNT]]... [-r FIRST[:LAST]]... [-y NAMES]... [-t] [-b OCTAL] TAPE`. Error: memory was refused.
 pub(crate) fn application_command<'a>(alloc: Global) -> Result<Command<'a>, AllocError>
     ensures { IfOk result (IsCommand application) }
 {
@@ -28,6 +28,7 @@ pub(crate) fn application_command<'a>(alloc: Global) -> Result<Command<'a>, Allo
     let command = with_argument(command, watch_argument(alloc));
     let command = with_argument(command, range_argument(alloc));
     let command = with_argument(command, symbols_argument(alloc));
+    let command = with_argument(command, text_argument(alloc));
     let command = with_argument(command, bottom_argument(alloc));
     with_argument(command, tape_argument(alloc))
 }
@@ -95,6 +96,17 @@ fn symbols_argument<'a>(alloc: Global) -> Arg<'a>
 {
     let help = "A map, a listing or an object: addresses are shown by its names too";
     option_argument(alloc, "symbols", 'y', "NAMES", help).action(ArgAction::Append)
+}
+
+// `-t`: show the texts of lines of listings.
+fn text_argument<'a>(alloc: Global) -> Arg<'a>
+    ensures { IsArgument text_rule result }
+{
+    Arg::new(alloc, "text")
+        .short('t')
+        .long("text")
+        .help("Show the text of each step's line in the listings of -y")
+        .action(ArgAction::SetTrue)
 }
 
 // `-b OCTAL`, as in `m11 link`. The parser accepts any text, as for `-p`.

@@ -1,12 +1,14 @@
 //! The whole work of the program, for any devices.
 
 ghost use Rattle.std.specs.Prelude.{◌≡◌, map};
+ghost use Rattle.m11_base_disassembly.specs.ListedLines.{listing_of};
 ghost use Rattle.m11_base_writes.specs.States.{output_of};
 ghost use Rattle.m11_cpu_machine.specs.Dialogue.{input_of};
 ghost use Rattle.m11_cli_reports.specs.Reports.{Reports};
 ghost use Rattle.m11_cli_reports.specs.Streams.{store, streams};
 ghost use Rattle.m11_cli_tasks.specs.Tasks.{IsDoable};
 ghost use Rattle.m11_cli_tasks.specs.declared.tasks.Task.TheVariants.{Sim};
+ghost use Rattle.m11_trace.specs.Known.{known_of};
 ghost use Rattle.m11_tracer.specs.Driver.{Carries, CarriesAsked, CarriesNamed, HasOutcome, Obeys, RefusesNames, RefusesPlaces, RunsApart, RunsInto, RunsOpen};
 ghost use Rattle.m11_tracer.specs.Outcome.{line_of, status_of};
 ghost use Rattle.m11_tracer.specs.declared.outcome.Outcome.{Outcome};
@@ -16,12 +18,11 @@ use crate::places::{Asked, asked_of};
 use crate::reports::report_no_names;
 use crate::task::{TraceTask, plan};
 use m11_base::{Feed, Sink};
-use m11_base_disassembly::Symbol;
 use m11_base_files::{OpenRefusal, Opens};
 use m11_cli_reports::{Refusal, RefusedValue, explain, report, report_not_opened, report_refused};
 use m11_cpu::SimFault;
-use m11_link_load_map::{NoNames, read_names};
-use m11_trace::{ApartFault, Ending, trace_apart, trace_run};
+use m11_link_load_map::{FileNames, NoNames, read_names};
+use m11_trace::{ApartFault, Ending, Known, trace_apart, trace_run};
 use std::alloc::Global;
 use std::convert::AsStr;
 
@@ -99,7 +100,8 @@ where
     }
 }
 
-// Carries out a task with the names in its files of names. If these give no names, that is reported, and nothing is run.
+// Carries out a task with the names in its files of names, and with the lines of their listings if these are kept. If the files give no names,
+// that is reported, and nothing is run.
 #[tactic(auto, using(crate::proofs::Carried::goes_on))]
 fn carry_out<F, I, O, E>(
     alloc: Global,
@@ -120,13 +122,23 @@ where
         (streams I.Feed O.Sink E.Sink input.old out.old err.old)
         (streams I.Feed O.Sink E.Sink input.new out.new err.new) }
 {
-    match read_names(alloc, files, task.bottom, task.names.as_slice()) {
-        Ok(symbols) => carry_asked(alloc, files, input, out, err, task, symbols.as_slice()),
+    match read_names(alloc, files, task.kept, task.bottom, task.names.as_slice()) {
+        Ok(names) => carry_asked(alloc, files, input, out, err, task, known_in(&names)),
         Err(none) => refuse_names(none, err),
     }
 }
 
-// Carries out a task with the stops and memory ranges that its values ask for. A value that isn't an address among these symbols is reported;
+// What is known of addresses by what files of names give.
+fn known_in(names: &FileNames) -> Known<'_>
+    ensures { known_of result ≡ record { symbols = names.now.symbols.items; listings = map listing_of names.now.listings.items } }
+{
+    Known {
+        symbols: names.symbols.as_slice(),
+        listings: names.listings.as_slice(),
+    }
+}
+
+// Carries out a task with the stops and memory ranges that its values ask for. A value that isn't an address among these known is reported;
 // if memory is refused, the result is `NoMemory`. In both cases nothing is run.
 fn carry_asked<F, I, O, E>(
     alloc: Global,
@@ -135,7 +147,7 @@ fn carry_asked<F, I, O, E>(
     out: &mut O,
     err: &mut E,
     task: &TraceTask<'_>,
-    symbols: &[Symbol],
+    known: Known<'_>,
 ) -> Outcome
 where
     F: Opens,
@@ -143,18 +155,18 @@ where
     O: Sink,
     E: Sink,
     requires { IsDoable (Sim task.now.sim) }
-    ensures { CarriesAsked task.now symbols.now result
+    ensures { CarriesAsked task.now (known_of known.entry) result
         (store (F.files files.old) (F.refusals files.old)) (store (F.files files.new) (F.refusals files.new))
         (streams I.Feed O.Sink E.Sink input.old out.old err.old)
         (streams I.Feed O.Sink E.Sink input.new out.new err.new) }
 {
-    match asked_of(alloc, Some(symbols), &task.values) {
-        Ok(asked) => carry_named(alloc, files, input, out, err, task, &asked, symbols),
+    match asked_of(alloc, Some(known.symbols), &task.values) {
+        Ok(asked) => carry_named(alloc, files, input, out, err, task, &asked, known),
         Err(refusal) => refuse_places(refusal, err),
     }
 }
 
-// Reports a value that isn't an address among the symbols, and returns the outcome.
+// Reports a value that isn't an address among the known, and returns the outcome.
 fn refuse_places<E: Sink>(refusal: Refusal<'_>, err: &mut E) -> Outcome
     ensures { RefusesPlaces refusal.entry result (output_of E.Sink err.old) (output_of E.Sink err.new) }
 {
@@ -193,7 +205,7 @@ fn carry_named<F, I, O, E>(
     err: &mut E,
     task: &TraceTask<'_>,
     asked: &Asked,
-    symbols: &[Symbol],
+    known: Known<'_>,
 ) -> Outcome
 where
     F: Opens,
@@ -201,16 +213,16 @@ where
     O: Sink,
     E: Sink,
     requires { IsDoable (Sim task.now.sim) }
-    ensures { CarriesNamed task.now asked.now symbols.now result
+    ensures { CarriesNamed task.now asked.now (known_of known.entry) result
         (store (F.files files.old) (F.refusals files.old)) (store (F.files files.new) (F.refusals files.new))
         (streams I.Feed O.Sink E.Sink input.old out.old err.old)
         (streams I.Feed O.Sink E.Sink input.new out.new err.new) }
 {
     match files.open(task.sim.tape) {
         Ok(tape) => match task.lines {
-            None => Outcome::Ran(run_tape(alloc, tape, input, out, err, task, asked, symbols)),
+            None => Outcome::Ran(run_tape(alloc, tape, input, out, err, task, asked, known)),
             Some(path) => run_into(
-                alloc, files, tape, path, input, out, err, task, asked, symbols,
+                alloc, files, tape, path, input, out, err, task, asked, known,
             ),
         },
         Err(OpenRefusal::NotOpened) => {
@@ -233,7 +245,7 @@ fn run_into<F, I, O, E>(
     err: &mut E,
     task: &TraceTask<'_>,
     asked: &Asked,
-    symbols: &[Symbol],
+    known: Known<'_>,
 ) -> Outcome
 where
     F: Opens,
@@ -241,14 +253,14 @@ where
     O: Sink,
     E: Sink,
     requires { IsDoable (Sim task.now.sim) }
-    ensures { RunsInto task.now asked.now path.now symbols.now (input_of (F.Input.text tape) (F.Input.faults tape))
+    ensures { RunsInto task.now asked.now path.now (known_of known.entry) (input_of (F.Input.text tape) (F.Input.faults tape))
         (store (F.files files.old) (F.refusals files.old)) (store (F.files files.new) (F.refusals files.new))
         (streams I.Feed O.Sink E.Sink input.old out.old err.old)
         (streams I.Feed O.Sink E.Sink input.new out.new err.new) result }
 {
     match files.create(path) {
         Ok(lines) => outcome_apart(run_apart(
-            alloc, files, tape, path, lines, input, out, err, task, asked, symbols,
+            alloc, files, tape, path, lines, input, out, err, task, asked, known,
         )),
         Err(OpenRefusal::NotOpened) => {
             report_not_opened(path, err);
@@ -270,7 +282,7 @@ fn run_apart<F, I, O, E>(
     err: &mut E,
     task: &TraceTask<'_>,
     asked: &Asked,
-    symbols: &[Symbol],
+    known: Known<'_>,
 ) -> Result<Ending, ApartFault>
 where
     F: Opens,
@@ -278,7 +290,7 @@ where
     O: Sink,
     E: Sink,
     requires { IsDoable (Sim task.now.sim) }
-    ensures { RunsApart task.now asked.now path.now symbols.now (input_of (F.Input.text tape) (F.Input.faults tape))
+    ensures { RunsApart task.now asked.now path.now (known_of known.entry) (input_of (F.Input.text tape) (F.Input.faults tape))
         (output_of F.Output.Sink lines)
         (store (F.files files.old) (F.refusals files.old)) (store (F.files files.new) (F.refusals files.new))
         (streams I.Feed O.Sink E.Sink input.old out.old err.old)
@@ -293,7 +305,7 @@ where
         sim.start,
         sim.words,
         sim.limit,
-        symbols,
+        known,
         task.from,
         task.last,
         &asked.stops,
@@ -316,10 +328,10 @@ fn run_tape<T: Feed + Drop, I: Feed, O: Sink, E: Sink>(
     err: &mut E,
     task: &TraceTask<'_>,
     asked: &Asked,
-    symbols: &[Symbol],
+    known: Known<'_>,
 ) -> Result<Ending, SimFault>
     requires { IsDoable (Sim task.now.sim) }
-    ensures { RunsOpen task.now asked.now symbols.now (input_of (T.text tape) (T.faults tape))
+    ensures { RunsOpen task.now asked.now (known_of known.entry) (input_of (T.text tape) (T.faults tape))
         (streams I.Feed O.Sink E.Sink input.old out.old err.old)
         (streams I.Feed O.Sink E.Sink input.new out.new err.new) result }
 {
@@ -331,7 +343,7 @@ fn run_tape<T: Feed + Drop, I: Feed, O: Sink, E: Sink>(
         sim.start,
         sim.words,
         sim.limit,
-        symbols,
+        known,
         task.from,
         task.last,
         &asked.stops,

@@ -1,16 +1,17 @@
 //! What a command line asks for.
 
-ghost use Rattle.std.specs.Prelude.{◌≡◌, IfOk, map};
-ghost use Rattle.clap.specs.Words.{found_of, rows_of};
+ghost use Rattle.std.specs.Prelude.{◌≡◌, IfOk, codes, map};
+ghost use Rattle.clap.specs.Words.{first_of, found_of, rows_of};
 ghost use Rattle.m11_cli_reports.specs.Refusals.{of_words};
 ghost use Rattle.m11_cli_tasks.specs.Tasks.{IsDoable};
 ghost use Rattle.m11_cli_tasks.specs.declared.tasks.Task.TheVariants.{Sim};
 ghost use Rattle.m11_tracer.specs.Places.{value_texts};
-ghost use Rattle.m11_tracer.specs.Task.{EntriesHaveResult, Plans, first_shown, last_shown, values_of};
+ghost use Rattle.m11_tracer.specs.Task.{EntriesHaveResult, Plans, first_shown, kept_by, last_shown, values_of};
 
 use crate::application::application_command;
 use crate::places::{Values, asked_of};
 use clap::ArgMatches;
+use m11_base_disassembly::Kept;
 use m11_cli_reports::{AddressOption, Refusal, single_reading};
 use m11_cli_tasks::{SimTask, all_texts, bottom_option, number_option, sim_task, text_argument};
 use std::alloc::{AllocError, Global};
@@ -32,6 +33,8 @@ pub struct TraceTask<'a> {
     pub values: Values<'a>,
     /// The paths of the files that name addresses, in order.
     pub names: Vec<&'a str>,
+    /// What is kept of these files: the lines of listings too, if the lines of steps show their texts.
+    pub kept: Kept,
     /// Where relocatable sections begin, for the names in listings and objects: an even address up to octal 157776.
     pub bottom: u16,
 }
@@ -85,6 +88,7 @@ fn parsed_task<'a>(alloc: Global, entries: &ArgMatches<'a>) -> Result<TraceTask<
         lines: text_argument(entries, "output"),
         values,
         names,
+        kept: kept_option(entries),
         bottom,
     })
 }
@@ -116,4 +120,20 @@ fn last_shown(entries: &ArgMatches<'_>) -> u16
     ensures { result ≡ last_shown (rows_of (found_of entries.now)) }
 {
     number_option(entries, "last", 1, MOST_LAST, DEFAULT_LAST) as u16
+}
+
+// What is kept of the files of names: the lines of listings too, if their texts are to be shown.
+fn kept_option(entries: &ArgMatches<'_>) -> Kept
+    ensures { result ≡ kept_by (first_of (codes "text") (rows_of (found_of entries.now))) }
+{
+    match text_argument(entries, "text") {
+        Some(text) => {
+            if text == "true" {
+                Kept::NamesAndLines
+            } else {
+                Kept::Names
+            }
+        }
+        None => Kept::Names,
+    }
 }
