@@ -5,6 +5,8 @@ use Rattle.m11_base.specs.Feed.{Text}
 use Rattle.m11_link_load_map.specs.NameFiles.{Names, NoneNamed}
 use Rattle.m11_link_load_map.specs.declared.name_files.NoNames.{NoNames}
 use Rattle.m11_link_load_map.specs.declared.name_files.NoNames.TheVariants as none
+use Rattle.m11_base_disassembly.specs.ListedLines.{PlacedListing}
+use Rattle.m11_base_disassembly.specs.declared.kept.Kept.TheVariants as kept
 use Rattle.m11_base_disassembly.specs.declared.symbols.Symbol.{Symbol}
 use Rattle.m11_base_files.specs.Opens.{Files}
 use Rattle.m11_base_writes.specs.States.{OutputState}
@@ -22,5 +24,6 @@ stop_of (none.InFile path fault) = NoSymbols path fault
 abbrev pub ShowsNamed : {I : Type 0} → (I → Option Text) → (I → ℕ) → Look → ℕ → List Bytes → Option Files → List Bytes → OutputState
     → OutputState → Result (Unit {0}) Stop → Type 0
 ShowsNamed text faults look bottom names files paths out out' result =
-    ((symbols : List Symbol) × Names text faults bottom files names symbols × ShowsAll look symbols files paths out out' result)
-    ⊎ ((none : NoNames) × NoneNamed text faults bottom files names none × (result ≡ Err (stop_of none)) × (out' ≡ out))
+    ((symbols : List Symbol) × (listings : List PlacedListing) × Names text faults kept.Names bottom files names symbols listings
+    × ShowsAll look symbols files paths out out' result)
+    ⊎ ((none : NoNames) × NoneNamed text faults kept.Names bottom files names none × (result ≡ Err (stop_of none)) × (out' ≡ out))

@@ -9,6 +9,7 @@ use crate::paths::Look;
 use crate::showing::show_all;
 use crate::stop::Stop;
 use m11_base::Sink;
+use m11_base_disassembly::Kept;
 use m11_base_files::Opens;
 use m11_link_load_map::{NoNames, read_names};
 use std::alloc::Global;
@@ -16,7 +17,6 @@ use std::alloc::Global;
 /// Shows the files at `paths`, in order, up to the first that can't be shown. The files at `names` name the addresses, with relocatable
 /// sections beginning at `bottom`; they are read before any other file is opened. Error: why there are no names, or why a file wasn't
 /// shown.
-#[tactic(auto, using(crate::proofs::Named::shown_with))]
 pub(crate) fn show_named<'a, F: Opens, O: Sink>(
     alloc: Global,
     files: &mut F,
@@ -30,8 +30,8 @@ pub(crate) fn show_named<'a, F: Opens, O: Sink>(
         (output_of O.Sink out.new) result }
     ensures files { F.files files.new ≡ F.files files.old }
 {
-    match read_names(alloc, files, bottom, names) {
-        Ok(symbols) => show_all(alloc, files, look, symbols.as_slice(), paths, out),
+    match read_names(alloc, files, Kept::Names, bottom, names) {
+        Ok(known) => show_all(alloc, files, look, known.symbols.as_slice(), paths, out),
         Err(none) => Err(stop_of(none)),
     }
 }
