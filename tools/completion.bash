@@ -63,7 +63,7 @@ _m11_trace() {
         -y | --symbols) _m11_files "${COMP_WORDS[COMP_CWORD]}" MAP LST OBJ ;;
         -o | --output) _m11_files "${COMP_WORDS[COMP_CWORD]}" TRACE ;;
         -[nskflpwrb] | --steps | --start | --words | --from | --last | --place | --watch | --range | --bottom) ;;
-        *) _m11_words "${COMP_WORDS[COMP_CWORD]}" '-n --steps -s --start -k --words -f --from -l --last -o --output -p --place -w --watch -r --range -y --symbols -b --bottom -h --help'"$(_m11_alone)" TAP ;;
+        *) _m11_words "${COMP_WORDS[COMP_CWORD]}" '-n --steps -s --start -k --words -f --from -l --last -o --output -p --place -w --watch -r --range -y --symbols -t --text -b --bottom -h --help'"$(_m11_alone)" TAP ;;
     esac
 }
 

@@ -12,7 +12,8 @@ refuse() {
 }
 
 # Calls a function with each option of a call and its value, as the programs read them, and with an empty option and the word for each other word.
-# Nothing more is called after a question for help.
+# Nothing more is called after a question for help. Options without a value, which are those of `flags`, are left out.
+flags=
 each_option() {
     called=$1 only_paths=
     shift
@@ -23,11 +24,22 @@ each_option() {
             --) only_paths=1 && continue ;;
             -h | --help) return ;;
             --*=*) option=${word%%=*} value=${word#*=} ;;
-            -[!-]?*) value=${word#-?} && option=${word%"$value"} && value=${value#=} ;;
-            -?*) option=$word value=${1-} && [ $# -eq 0 ] || shift ;;
+            -[!-]?*)
+                value=${word#-?} && option=${word%"$value"}
+                ! is_flag "$option" || { set -- "-$value" "$@" && continue; }
+                value=${value#=}
+                ;;
+            -?*)
+                ! is_flag "$word" || continue
+                option=$word value=${1-} && [ $# -eq 0 ] || shift
+                ;;
         esac
         "$called" "$option" "$value"
     done
+}
+
+is_flag() {
+    case " $flags " in *" $1 "*) ;; *) return 1 ;; esac
 }
 
 run_program() {

@@ -2,12 +2,21 @@
 """Runs a built m11-trace with tapes written here: tools/test_trace.py PROGRAM
 
 Each check writes a tape into a new folder, runs PROGRAM there, and compares its status, the output of the tape's program and each byte of the
-lines. The expected output is written out by hand. The last line is `N passed, M failed`, and the status is 1 if one failed."""
+lines. The expected output is written out by hand. The texts of lines of listings are also compared with those that m11-debug finds in the listings of
+some programs, which the scripts m11 and m11-dump at the top make. The last line is `N passed, M failed`, and the status is 1 if one failed."""
 import os
 import re
 import subprocess
 import sys
 import tempfile
+
+sys.dont_write_bytecode = True
+HERE = os.path.dirname(os.path.realpath(__file__))
+TOP = os.path.dirname(HERE)
+sys.path.insert(0, HERE)
+
+from debugging import names as debugged  # noqa: E402
+from tests.debugging import MADE, PARTS  # noqa: E402
 
 
 def word(number):
@@ -92,6 +101,33 @@ LAST = "".join(f"{number}\t001002\tBR     1000\n{number + 1}\t001000\tINC    R0\
 # The directory of a module with one section, and the end of its object.
 OBJECT = block(word(1) + entry("HI", 0, 0, 0) + entry("", 0o40, 5, 0o34) + entry("MAIN", 0o50, 4, 0) + entry("LOOP", 0o50, 4, 4)
                + entry("WAIT", 0o50, 4, 0o10)) + block(word(2)) + block(word(6))
+
+
+def listed(location, items, text):
+    """A line of a listing that shows these items, in octal digits."""
+    return f"{1:10} {location:06o}{''.join(f' {item:>6} ' for item in items):24} {text}".rstrip(" ") + "\n"
+
+
+# The lines of the program's source, with their locations and words, and those of a listing with a section of this size.
+SOURCE = ((0, ("012701", "000026"), "MAIN:\tMOV\t#TEXT,R1"), (4, ("112100",), "LOOP:\tMOVB\t(R1)+,R0"), (6, ("001406",), "\tBEQ\tEND"),
+          (8, ("105737", "177564"), "WAIT:\tTSTB\t@#TPS"), (12, ("100375",), "\tBPL\tWAIT\t; until it is ready"), (14, ("110037", "177566"), "\tMOVB\tR0,@#TPB"),
+          (18, ("000770",), "\tBR\tLOOP"), (20, ("000000",), "END: HALT"))
+TEXTS = {0o1000 + location: text for location, _, text in SOURCE}
+
+
+def listing(*lines, size=0o34):
+    return ("".join(listed(*line) for line in lines) + "\nSYMBOL TABLE\n\n. ABS. 000000   0 RW,I,GBL,ABS,OVR\n"
+            f"       {size:06o}   1 RW,I,LCL,REL,CON\n\nERRORS DETECTED: 0\n")
+
+
+def with_texts(lines, texts):
+    """The lines of steps with the texts at their addresses."""
+    def text_of(line):
+        text = texts.get(int(line.split("\t")[1].split()[0], 8))
+        return line if text is None else f"{line[:-1]}\t;{text}\n"
+    return "".join(map(text_of, lines))
+
+
 # Maps of links, load maps, listings and objects, by their names.
 MAPS = {
     "HI.OBJ": OBJECT.decode("latin-1"),
@@ -137,6 +173,18 @@ MAPS = {
     "FIFTH.LST": "\nSYMBOL TABLE\nMAIN     000000 R    2\n\n. ABS. 000000   0 RW,I,GBL,ABS,OVR\n       000034   1 RW,I,LCL,REL,CON\n\n",
     "MARK.LST": "\nSYMBOL TABLE\nMAIN     001000 X\n\n",
     "EMPTY.LST": "\nSYMBOL TABLE\n\n",
+    "TEXT.LST": listing(*SOURCE),
+    # The same with another line for the word at a location, with other words there, with bytes there, and with the word elsewhere.
+    "AGAIN.LST": listing(*SOURCE, (4, ("112100",), "the same again")),
+    "OTHERS.LST": listing((4, ("112101",), "another"), (4, ("   100",), "a byte"), (4, (), "nothing"), *SOURCE, (6, ("112100",), "elsewhere")),
+    "SHORT.LST": listing(*SOURCE, size=8),
+    "LENGTHY.LST": listing(*SOURCE[:1], (4, ("112100",), "x" * 100000)),
+    # A line that continues another one has no text; a line after SYMBOL TABLE is none of the source.
+    "WORDS.LST": listing((0, ("012701", "001026", "112100"), "\t.WORD\t12701,1026,112100,1406"), (6, ("001406",), "")).replace("         1 000006", "           000006"),
+    "AFTER.LST": listing(*SOURCE[:2]) + listed(6, ("001406",), "after"),
+    # Two modules with sections of the same sizes, whose lines show the same locations.
+    "ONE.LST": listing(*SOURCE[:1], size=4).replace("       000004   1", "CODE   000004   1"),
+    "REST.LST": (listing(*((location - 8, items, text) for location, items, text in SOURCE[3:]), size=0o24)).replace("       000024   1", "CODE   000024   1"),
 }
 NAMES = {"001000": "MAIN", "001004": "LOOP", "001006": "LOOP+2", "001010": "WAIT", "001014": "WAIT+4", "001016": "WAIT+6", "001022": "WAIT+12", "001024": "WAIT+14"}
 NAMED = [re.sub("\t([0-7]{6})\t", lambda found: f"\t{found[1]} {NAMES[found[1]]}\t", line, count=1)
@@ -301,6 +349,25 @@ CHECKS = (
     ("half a tape", "HI.TAP", TAPE[:9], 4, "", "?M11 SIM 2 Truncated\n"),
 )
 
+CHECKS += (
+    ("texts of a listing", "-t -y TEXT.LST HI.TAP", TAPE, 0, "H\n", with_texts(LINES, TEXTS) + END),
+    ("texts of a listing in the last steps", "-l 2 --text -y TEXT.LST HI.TAP", TAPE, 0, "H\n", with_texts(LINES[14:], TEXTS) + END),
+    ("texts after words of memory and codes", "-t -n 2 -y TEXT.LST HI.TAP", STORES, 1, "", "".join(STORED[:2]) + "LIMIT AFTER 2 STEPS\n" + NONE.replace("SP 000000 PC 001000", "SP 001000 PC 001012")),
+    ("no texts without the option", "-y TEXT.LST HI.TAP", TAPE, 0, "H\n", "".join(LINES) + END),
+    ("no texts without a listing", "-t HI.TAP", TAPE, 0, "H\n", "".join(LINES) + END),
+    ("no texts of a map", "-t -y HI.MAP HI.TAP", TAPE, 0, "H\n", "".join(NAMED) + END),
+    ("no text of two lines with the same word", "-t -y AGAIN.LST HI.TAP", TAPE, 0, "H\n", with_texts(LINES, {at: text for at, text in TEXTS.items() if at != 0o1004}) + END),
+    ("texts beside lines with other words", "-t -y OTHERS.LST HI.TAP", TAPE, 0, "H\n", with_texts(LINES, TEXTS) + END),
+    ("no text past the end of a section", "-t -y SHORT.LST HI.TAP", TAPE, 0, "H\n", with_texts(LINES, {at: text for at, text in TEXTS.items() if at < 0o1010}) + END),
+    ("no text where nothing lies", "-t -b 2000 -y TEXT.LST HI.TAP", TAPE, 0, "H\n", "".join(LINES) + END),
+    ("a long text", "-t -n 2 -y LENGTHY.LST HI.TAP", TAPE, 1, "", with_texts(LINES[:2], TEXTS | {0o1004: "x" * 100000}) + "LIMIT AFTER 2 STEPS\n" + registers("000110", "001027", "001006", "000000")),
+    ("a line that continues another", "-t -n 3 -y WORDS.LST HI.TAP", TAPE, 1, "", with_texts(LINES[:3], {0o1000: "\t.WORD\t12701,1026,112100,1406", 0o1006: ""}) + "LIMIT AFTER 3 STEPS\n" + registers("000110", "001027", "001010", "000000")),
+    ("no text of what comes after the lines", "-t -n 3 -y AFTER.LST HI.TAP", TAPE, 1, "", with_texts(LINES[:2], TEXTS) + LINES[2] + "LIMIT AFTER 3 STEPS\n" + registers("000110", "001027", "001010", "000000")),
+    ("texts of the listings of a load map's modules", "-t -y TWINS.MAP -y ONE.LST -y REST.LST HI.TAP", TAPE, 0, "H\n",
+     with_texts([line.replace("LOOP+2", "CODE+6").replace("LOOP", "CODE+4").replace("MAIN", "CODE") for line in PLACED],
+                {at: text for at, text in TEXTS.items() if at not in (0o1004, 0o1006)}) + END),
+)
+
 # Likewise, and then what the file LINES holds; None where it isn't there.
 APART = (
     ("lines in a file", "-o LINES HI.TAP", TAPE, 0, "H\n", END, "".join(LINES)),
@@ -308,12 +375,63 @@ APART = (
     ("the last lines in a file", "-l 2 -o LINES HI.TAP", TAPE, 0, "H\n", END, "".join(LINES[14:])),
     ("words of memory and a changed word in a file", "-w 1100 -w 1102 -o LINES HI.TAP", STORES, 1, "", "CHANGED 001100 AFTER 3 STEPS\n" + NONE.replace("SP 000000 PC 001000", "SP 001000 PC 001020"), "".join(STORED[:3])),
     ("parts of memory apart from the lines", "-n 1 -r 1002 -o LINES HI.TAP", LOOP, 1, "", "LIMIT AFTER 1 STEPS\n" + registers("000001", "000000", "001002", "000000") + "MEMORY 001002:001002\n  001002 000776\n", "1\t001000\tINC    R0\tR0 000001\n"),
+    ("texts of a listing in a file", "-t -o LINES -y TEXT.LST HI.TAP", TAPE, 0, "H\n", END, with_texts(LINES, TEXTS)),
     ("half a tape, and a file", "-o LINES HI.TAP", TAPE[:9], 4, "", "?M11 SIM 2 Truncated\n", ""),
     ("a tape that isn't there, and a file", "-o LINES NONE.TAP", TAPE, 3, "", "?M11 OPEN NONE.TAP\n", None),
     ("a map that isn't there, and a file", "-y NO.MAP -o LINES HI.TAP", TAPE, 3, "", "?M11 OPEN NO.MAP\n", None),
     ("a file in a folder that isn't there", "-o NO/LINES HI.TAP", TAPE, 3, "", "?M11 OPEN NO/LINES\n", None),
     ("a full device", "-o /dev/full HI.TAP", TAPE, 3, "H\n", "?M11 SIM 11 Write LINES\n", None),
 )
+
+
+# Programs of one module, by their names, and one of three modules that share a source; with its steps at most, and how many of them have a text.
+PROGRAMS = {"COUNT": 600, "PARTS": 5, "MADE": 12, "SORTED": 900}
+
+
+def make(folder, name):
+    """Assembles and links a program, and returns the words for its listings."""
+    def call(*words):
+        done = subprocess.run([os.path.join(TOP, words[0]), *words[1:]], cwd=folder, capture_output=True, check=True)
+        return done.stdout
+    examples, modules = os.path.join(TOP, "examples"), [name]
+    if name == "SORTED":
+        modules = ["MAIN", "SORT", "OUTPUT"]
+        sources = {module: [os.path.join(examples, "modules", file + ".MAC") for file in ("DEFS", module)] for module in modules}
+    elif name == "COUNT":
+        sources = {name: [os.path.join(examples, "trace", "COUNT.MAC")]}
+    else:
+        sources = {name: [name + ".MAC"]}
+        with open(os.path.join(folder, name + ".MAC"), "w", encoding="latin-1") as file:
+            file.write({"PARTS": PARTS, "MADE": MADE}[name])
+    for module in modules:
+        call("m11", "asm", "-o", module + ".OBJ", "-l", module + ".LST", *sources[module])
+    objects = [module + ".OBJ" for module in modules]
+    call("m11", "link", "-o", "P.TAP", *objects)
+    with open(os.path.join(folder, "LOAD.MAP"), "wb") as file:
+        file.write(call("m11-dump", "-m", *objects))
+    return ["LOAD.MAP", *(module + ".LST" for module in modules)]
+
+
+def wrong_texts(program, name, most):
+    """Which texts of a program's steps aren't those that m11-debug finds at their addresses, and whether there are enough."""
+    with tempfile.TemporaryDirectory() as folder:
+        files = make(folder, name)
+        given = [word for file in files for word in ("-y", file)]
+        subprocess.run([program, "-t", "-n", str(most), "-o", "LINES", *given, "P.TAP"], cwd=folder, stdin=subprocess.DEVNULL, capture_output=True, check=False)
+        with open(os.path.join(folder, "LINES"), encoding="latin-1", newline="") as file:
+            lines = file.read().splitlines()
+        names = debugged.load([os.path.join(folder, file) for file in files], 0o1000, None)
+    wrong, shown, count = [], 0, 0
+    for line in lines:
+        found = names.source(int(line.split("\t")[1].split()[0], 8))
+        _, has_text, text = line.partition("\t;")
+        count += found is not None and not found.text.startswith("in ")
+        shown += bool(has_text)
+        if has_text and found and text != found.text:
+            wrong.append(f"{name}: {line!r} and {found.text!r}")
+    if shown * 10 < count * 9 or not shown:
+        wrong.append(f"{name}: {shown} of {count} steps have texts")
+    return wrong
 
 
 def main():
@@ -336,12 +454,16 @@ def main():
         if got != wanted:
             failed += 1
             print(f"{name}\n--- is\n{got[0]}\n{got[1]}{got[2]}{got[3:]}\n--- should be\n{wanted[0]}\n{wanted[1]}{wanted[2]}{wanted[3:]}")
+    for name, most in PROGRAMS.items():
+        wrong = wrong_texts(program, name, most)
+        failed += bool(wrong)
+        print(*wrong, sep="\n", end="\n" if wrong else "")
     with open("/dev/full", "wb") as full:
         done = subprocess.run([program, "--help"], stdout=full, stderr=subprocess.PIPE, check=False)
     if (done.returncode, done.stderr) != (0, b""):
         failed += 1
         print(f"help on a full device\n--- is\n{done.returncode}\n{done.stderr.decode()}--- should be\n0")
-    print(f"{len(CHECKS) + len(APART) + 1 - failed} passed, {failed} failed")
+    print(f"{len(CHECKS) + len(APART) + len(PROGRAMS) + 1 - failed} passed, {failed} failed")
     return 1 if failed else 0
 
 

@@ -151,8 +151,9 @@ TAKEN = (
 
 
 # The same of m11-trace, whose lines may go to a file.
-REFUSED_LINES = ("-o A.MAC A.MAC", "-oA.MAC ./A.MAC", "-o LINK -y A.MAC B.MAC", "--output=HARD --symbols A.MAC B.MAC", "B.MAC -y B.MAC -y A.MAC -o A.MAC")
-TAKEN_LINES = ("-o N A.MAC", "-o N -y A.MAC B.MAC", "-o /dev/null /dev/null", "-h -o A.MAC A.MAC", "A.MAC", "-n 5 -p 1000 A.MAC", "-o", "-o N -- A.MAC -o")
+REFUSED_LINES = ("-o A.MAC A.MAC", "-oA.MAC ./A.MAC", "-o LINK -y A.MAC B.MAC", "--output=HARD --symbols A.MAC B.MAC", "B.MAC -y B.MAC -y A.MAC -o A.MAC",
+                 "-t -o A.MAC A.MAC", "-o A.MAC -t A.MAC", "-to A.MAC A.MAC", "-toA.MAC A.MAC", "--text -o A.MAC A.MAC", "-tyA.MAC -o A.MAC B.MAC")
+TAKEN_LINES = ("-o N A.MAC", "-o N -y A.MAC B.MAC", "-o /dev/null /dev/null", "-h -o A.MAC A.MAC", "A.MAC", "-n 5 -p 1000 A.MAC", "-o", "-o N -- A.MAC -o", "-t -o N A.MAC", "-tho A.MAC A.MAC")
 
 
 def check_paths(repository):
