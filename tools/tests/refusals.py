@@ -21,6 +21,7 @@ REFUSED = re.compile(r"let Ok\([^;]*? else \{\s*return Err\($")
 CONVERTS = re.compile(r"fn from\(_?\w+: (?:AllocFailed|\w+Error|\w+Fault|\w+Refusal)\b")
 # Functions that make such a fault otherwise, each with the reason.
 OTHERWISE = {
+    ("crates/m11_cpu_states/src/memories.rt", "put_memory"): "no memory has as many bytes as there are addresses",
     ("crates/m11_cli_tasks/src/arguments.rt", "word"): "a word of the process fits no buffer",
     ("crates/m11_link_load_map/src/name_files.rt", "hold_object"): "one of two growths was refused",
     ("crates/m11_tracer/src/driver.rt", "refuse_places"): "a refusal that is of no value is one of memory, as AsksFor says",
