@@ -98,6 +98,14 @@ def screen(page):
     return page.see(SCREEN)
 
 
+def shows(page, is_right):
+    """Waits until what the console shows is right: it is drawn a moment after the machine's state."""
+    end = time.monotonic() + browser.PATIENCE
+    while not is_right(screen(page)):
+        check(time.monotonic() < end, screen(page))
+        time.sleep(0.05)
+
+
 def alone(page, text):
     """A single source with this text."""
     source(page, text)

@@ -2,7 +2,7 @@
 import re
 
 from browser import CONTROL
-from given import GAME, SCREEN, STATE, alone, built, check, example, same, screen, selected, source, test, value
+from given import GAME, SCREEN, STATE, alone, built, check, example, same, selected, shows, source, test, value
 
 
 @test
@@ -17,7 +17,7 @@ def plays_the_game(given):
     page.type("Ada\n50\n25\n12\n20\n23\n")
     page.wait(f"{STATE} === 'HALT AFTER 1827 STEPS'")
     page.wait(f"{SCREEN}.includes('PSW')")
-    same(screen(page), GAME)
+    shows(page, lambda text: text == GAME)
 
 
 @test
@@ -89,7 +89,7 @@ def input_comes_from_lines_pastes_and_files(given):
     page.key("d", CONTROL)
     # As many steps as `m11 sim` makes with these lines, each ended by a line feed alone.
     page.wait(f"{SCREEN}.includes('4: FROM A FILE') && {STATE} === 'HALT AFTER 818 STEPS'")
-    check("4 lines" in screen(page), screen(page))
+    shows(page, lambda text: "4 lines" in text)
 
 
 @test
@@ -102,13 +102,13 @@ def control_characters_are_shown(given):
     page.key("F8")
     page.wait(f"{STATE}.startsWith('WAITS')")
     page.wait(f"{SCREEN}.includes('<b>')")
-    same(screen(page).rstrip(), "XBC\n13      T^[[31m^A^?\\201<b>")
+    shows(page, lambda text: text.rstrip() == "XBC\n13      T^[[31m^A^?\\201<b>")
     check(page.see("document.querySelector('#screen').classList.contains('flash')"), "the bell flashes")
     page.press("#screen")
     page.key("a", CONTROL)
     page.key("Escape")
     page.wait(f"{STATE}.startsWith('HALT AFTER')")
-    check("^A^[" in screen(page).split("<b>")[1], screen(page))
+    shows(page, lambda text: "^A^[" in text.split("<b>")[1])
 
 
 @test
@@ -117,7 +117,7 @@ def objects_and_tapes_run_without_sources(given):
     example(page, "linking what is assembled")
     page.key("F8")
     page.wait(f"{STATE} === 'HALT AFTER 28 STEPS'")
-    check(screen(page).startswith("HI\n"), screen(page))
+    shows(page, lambda text: text.startswith("HI\n"))
     example(page, "A tape alone")
     page.wait("document.querySelector('#messages-list').textContent.includes('ECHO.TAP is a tape')")
     page.key("F8")

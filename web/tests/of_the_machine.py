@@ -6,7 +6,7 @@ import sys
 import time
 
 from browser import CONTROL, SHIFT
-from given import LOOP, SCREEN, STATE, TOP, Skipped, arrived, alone, built, check, example, same, screen, test, value
+from given import LOOP, SCREEN, STATE, TOP, Skipped, alone, arrived, built, check, example, same, shows, test, value
 
 
 @test
@@ -107,7 +107,7 @@ def steps_there_and_back(given):
     # The third instruction is a call; the program prints in it.
     page.press("#over")
     page.wait(f"{STATE}.startsWith('AFTER') && document.querySelector('#register-PC').textContent === '001014'")
-    same(screen(page).strip(), "Who are you?")
+    shows(page, lambda text: text.strip() == "Who are you?")
     over = int(page.see("document.querySelector('#step-number').value"))
     check(over > 20, f"a call in {over} steps")
     page.press("#back")

@@ -2,7 +2,7 @@
 import json
 
 from browser import CONTROL, SHIFT
-from given import HOSTILE_NAME, MARKUP, SCREEN, STATE, built, check, same, screen, selected, source, test, value
+from given import HOSTILE_NAME, MARKUP, SCREEN, STATE, built, check, same, selected, shows, source, test, value
 
 
 @test
@@ -139,5 +139,5 @@ def hostile_texts_are_only_texts(given):
     page.press("#files-dialog [data-close]")
     page.key("F8")
     page.wait(f"{SCREEN}.includes('PSW')")
-    check(screen(page).startswith(MARKUP), screen(page))
+    shows(page, lambda text: text.startswith(MARKUP))
     page.harmless()
