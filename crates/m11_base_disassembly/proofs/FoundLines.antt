@@ -6,7 +6,7 @@ use Rattle.std.specs.Option.{option_to_list}
 use Rattle.std.specs.Prelude.{codes}
 use Rattle.std.specs.Str.{bytes_eq}
 use Rattle.m11_base_disassembly.specs.Fitting.{Fits}
-use Rattle.m11_base_disassembly.specs.ListedLines.{ListedLine, line_with, lines_before, listed_line, listed_lines}
+use Rattle.m11_base_disassembly.specs.ListedLines.{ListedLine, lines_before, listed_line, listed_lines}
 use Rattle.m11_base_disassembly.specs.declared.listed_lines.Fitting.{Fitting}
 use Rattle.m11_base_disassembly.specs.declared.listed_lines.Fitting.TheVariants.{Nothing, Single}
 

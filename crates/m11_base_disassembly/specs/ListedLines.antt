@@ -1,5 +1,5 @@
 -- The lines of listings that show words, and the text of the one line that shows the word at an address. (This project's own. The lines:
--- docs/FORMATS.md, "The listing that is written", which counts the columns from 1. Where a listing lies: docs/COMMANDS.md, "Names of
+-- docs/FORMATS.md, "The listing that is written", which counts the columns from 1. Where a listing lies: docs/VIEWS.md, "Names of
 -- addresses".)
 use Rattle.std.specs.Prelude.{◌==◌, ◌&&◌, ◌+◌, ◌%◌, ℕ, Bool, nat_le, nat_lt, if◌then◌else◌, List, [], ◌∷◌, codes, drop, map, flat_map, Option, Some, None, Result, Ok, Err}
 use Rattle.std.specs.List.{filter, filter_map, list_any}

@@ -21,9 +21,10 @@ use Rattle.m11_base_disassembly.specs.declared.symbols.Symbol.{Symbol}
 
 -- ---- what files of names give
 
--- what files of names have given so far: the names in maps, load maps and listings, in order, where the sections in a load map come after its
--- globals; the listings with their lines, in order, if lines are kept; and the contributions at which further listings may lie: those in the last load map without those of modules whose listings came
--- after it, none after a listing without a load map, or None before a load map and before a listing
+-- what files of names have given so far: what is kept of them; the names in maps, load maps and listings, in order, where the sections in a load
+-- map come after its globals; the listings with their lines, in order, if lines are kept; and the contributions at which further listings may
+-- lie: those in the last load map without those of modules whose listings came after it, none after a listing without a load map, or None before
+-- a load map and before a listing
 pub record NamesSoFar : Type 0 where
   pub kept : Kept
   pub symbols : List Symbol
