@@ -43,10 +43,11 @@ struct Found<'a, I> {
 }
 
 /// The names of addresses in the files at these paths: the globals of maps, the globals and the sections of load maps, and the names in
-/// listings, in order, and after them the globals of a link of the objects among these files. A listing lies where the contributions of its
-/// module do in the last load map before it; without a load map before it, and in a link of the objects, relocatable sections begin at
-/// `bottom`. If lines are kept, the listings with their lines are handed back too. Each file is opened and read before the next; an object is then opened again, as for two passes, and must be a file that can be read more than once. Error: why a
-/// file gives no names, for the first such file; or else why a link of the objects is refused, with the path of the object at fault.
+/// listings, in order, and after them the globals of a link of the objects among these files. If lines are kept, the listings are handed back
+/// with their lines too. A listing lies where the contributions of its module do in the last load map before it; without a load map before
+/// it, and in a link of the objects, relocatable sections begin at `bottom`. Each file is opened and read before the next; an object is then
+/// opened again, as for two passes, and must be a file that can be read more than once. Error: why a file gives no names, for the first such
+/// file; or else why a link of the objects is refused, with the path of the object at fault.
 pub fn read_names<'a, F: Opens>(
     alloc: Global,
     files: &mut F,
