@@ -1,5 +1,5 @@
 -- Whole runs whose trace lines have an output of their own.
-use Rattle.std.proofs.Common.{◌≡◌, ◌∙◌, ℕ, List, [], ◌++◌, append-nil, Option, Some, None, Ok, Err, refl, sym, subst, arith}
+use Rattle.std.proofs.Common.{◌≡◌, ◌∙◌, ℕ, List, [], append-nil, Option, Some, None, Ok, Err, refl, sym, subst, arith}
 use Rattle.std.specs.Io.KnownBytes.{Appends, Keeps}
 use Rattle.m11_base.specs.Devices.{Rises}
 use Rattle.m11_base.specs.Sink.{AppendsPrefix}
@@ -11,7 +11,7 @@ use Rattle.m11_cpu.specs.declared.fault.SimFault.TheVariants.{Load, Write, NoMem
 use Rattle.m11_cpu_machine.specs.Dialogue.{Devices, Input, Output}
 use Rattle.m11_trace.specs.Apart.{HandsOn, TracesApart, fault_of_steps}
 use Rattle.m11_trace.specs.Stepping.{TracesSteps, stop_text}
-use Rattle.m11_trace.specs.Tracing.{end_report, step_lines}
+use Rattle.m11_trace.specs.Tracing.{step_lines}
 use Rattle.m11_trace.specs.declared.apart.ApartFault.TheVariants.{Lines, Run}
 use Rattle.m11_trace.specs.declared.ranges.Range.{Range}
 use Rattle.m11_trace.specs.declared.stops.Stops.{Stops}

@@ -1,5 +1,5 @@
 -- Watched words whose changes are counted down while steps are made.
-use Rattle.std.proofs.Common.{◌≡◌, ◌∙◌, ℕ, ◌+◌, ◌-◌, ◌<◌, ◌≤◌, Bool, true, false, cond, not, eqb, ◌&&◌, List, [], ◌∷◌, ◌++◌, append-nil, append_assoc, drop, get_or, length, map, set, take, Option, Some, refl, sym, ap, ap₂, arith}
+use Rattle.std.proofs.Common.{◌≡◌, ◌∙◌, ℕ, ◌+◌, ◌-◌, ◌<◌, ◌≤◌, Bool, true, false, cond, eqb, ◌&&◌, List, [], ◌∷◌, ◌++◌, append-nil, append_assoc, drop, get_or, length, map, set, take, Option, Some, refl, sym, ap, ap₂, arith}
 use Rattle.std.proofs.lemmas.Bool.{eqb-true}
 use Rattle.std.proofs.lemmas.List.{drop_all, drop_more, length-map, length-take, map_more, set_at, take_all}
 use Rattle.m11_cpu_machine.specs.declared.machine.Machine.{Machine}

@@ -1,4 +1,4 @@
--- What is known of addresses: their names, and the lines of listings that show the words there. (This project's own; docs/COMMANDS.md, "Names of
+-- What is known of addresses: their names, and the lines of listings that show the words there. (This project's own; docs/VIEWS.md, "Names of
 -- addresses".)
 use Rattle.std.specs.Prelude.{List, map}
 use Rattle.m11_base_disassembly.specs.ListedLines.{PlacedListing, listing_of}

@@ -1,6 +1,6 @@
 -- A whole traced run: a tape is loaded and run as without tracing, but at most up to a breakpoint or a change of a watched word, and
 -- the trace lines and the ending are reported. (This project's own.)
-use Rattle.std.specs.Prelude.{◌≡◌, ℕ, suc, ◌<◌, ◌≤◌, true, List, [], ◌∷◌, ◌++◌, drop, length, unwrap_or, Option, Some, Result, Ok, Err, ⊤}
+use Rattle.std.specs.Prelude.{◌≡◌, ℕ, suc, ◌<◌, ◌≤◌, true, List, [], ◌∷◌, ◌++◌, drop, length, unwrap_or, Some, Result, Ok, Err, ⊤}
 use Rattle.std.specs.Io.KnownBytes.{Appends}
 use Rattle.m11_base.specs.Devices.{Bytes, Rises}
 use Rattle.m11_base.specs.Sink.{AppendsPrefix}

@@ -1,15 +1,14 @@
 //! The ends of trace lines, after their memory words.
 
-ghost use Rattle.std.specs.Prelude.{◌≡◌, ◌≤◌, ◌+◌, ◌∷◌, ◌++◌, [], Some, length};
+ghost use Rattle.std.specs.Prelude.{◌≡◌, ◌≤◌, ◌∷◌, ◌++◌, [], Some, length};
 ghost use Rattle.std.specs.Option.{option_map};
-ghost use Rattle.arrayvec.specs.ArrayVec.{array_vec_len};
 ghost use Rattle.m11_cpu.specs.Messages.{PutsMessages};
 ghost use Rattle.m11_trace.specs.Known.{known_of};
 ghost use Rattle.m11_trace.specs.Lines as spec;
 
 use crate::known::Known;
 use crate::line::{Line, add, add_word, put_text};
-use crate::shots::{Shot, View};
+use crate::shots::Shot;
 use m11_base::Sink;
 use m11_base_disassembly::listed_text;
 use m11_cpu::SimFault;

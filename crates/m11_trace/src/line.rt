@@ -9,7 +9,7 @@ use arrayvec::ArrayVec;
 use m11_base::{Sink, octal6, put_all};
 use m11_cpu::SimFault;
 
-/// A line or a part of one. The line of a step takes at most 197 bytes without its memory words. Of these, 40 are reserved for its number:
+/// A part of a line. The part of a step's line before its memory words takes at most 180 bytes. Of these, 40 are reserved for its number:
 /// the number has at most ten digits, but `itoa` promises only that a number takes at most 40 bytes.
 pub(crate) type Line = ArrayVec<u8, 204>;
 

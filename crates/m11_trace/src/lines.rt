@@ -1,6 +1,6 @@
 //! The trace lines of steps, up to their memory words.
 
-ghost use Rattle.std.specs.Prelude.{◌≡◌, ◌≤◌, ◌+◌, ◌∷◌, ◌++◌, [], length};
+ghost use Rattle.std.specs.Prelude.{◌≡◌, ◌≤◌, ◌+◌, ◌∷◌, ◌++◌, []};
 ghost use Rattle.arrayvec.specs.ArrayVec.{array_vec_len};
 ghost use Rattle.m11_trace.specs.Shots.{words_in};
 ghost use Rattle.m11_trace.specs.Lines as spec;

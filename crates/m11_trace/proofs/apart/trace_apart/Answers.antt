@@ -1,4 +1,3 @@
-use Rattle.std.proofs.Common.{Err, subst}
 use Rattle.m11_cpu.specs.Simulation.{request_of}
 use Rattle.m11_cpu_machine.specs.Dialogue.{both, input_of, output_of}
 use Rattle.m11_trace.specs.Known.{known_of}

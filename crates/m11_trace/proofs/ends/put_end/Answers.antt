@@ -1,4 +1,4 @@
-use Rattle.std.proofs.Common.{ℕ, List, Option, [], ◌∷◌, ◌++◌, ◌∙◌, subst}
+use Rattle.std.proofs.Common.{ℕ, List, Option, [], ◌∷◌, ◌++◌, subst}
 use Rattle.m11_cpu.specs.Messages.{PutsMessages}
 use Rattle.m11_trace.specs.Lines.{listed_field, status_change}
 use Rattle.m11_trace.proofs.ends.put_end.Goals as goal

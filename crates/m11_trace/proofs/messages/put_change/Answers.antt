@@ -1,4 +1,4 @@
-use Rattle.std.proofs.Common.{ℕ, List, ◌++◌, codes, Err, subst}
+use Rattle.std.proofs.Common.{ℕ, List, codes, subst}
 use Rattle.std.proofs.lemmas.Result.{err_from_is_err_and}
 use Rattle.m11_base.specs.Octal.{octal_text}
 use Rattle.m11_cpu.specs.Messages.{PutsMessages, end_text}

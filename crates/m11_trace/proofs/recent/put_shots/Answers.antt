@@ -1,4 +1,4 @@
-use Rattle.std.proofs.Common.{◌∙◌, arith}
+use Rattle.std.proofs.Common.{arith}
 use Rattle.std.proofs.lemmas.Result.{err_from_is_err_and}
 use Rattle.m11_trace.proofs.Reports.{all_lines, nothing_yet, one_more_shown, shot_failed}
 use Rattle.m11_trace.proofs.recent.put_shots.Goals as goal

@@ -1,4 +1,4 @@
-use Rattle.std.proofs.Common.{◌≡◌, ◌++◌, drop, length, map, take}
+use Rattle.std.proofs.Common.{◌≡◌, ◌++◌, drop, map, take}
 use Rattle.m11_trace.specs.Watches.{watch_of}
 use Rattle.m11_trace.proofs.watches.look.Given as goal
 
