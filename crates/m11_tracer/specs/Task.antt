@@ -62,7 +62,8 @@ in_order rows = result_and (start_by rows) (result_and (asked_in_order None (val
 -- the traced run that the parsed options ask for: the run is that of `m11 sim`; `from` gives the first step with a trace line, and `last`
 -- says that only so many of the last ones have lines; `output` gives the file for the lines; `place` gives the values of the breakpoints,
 -- `watch` those of the words to watch, `range` those of the memory ranges, each in order, and none of them is refused whatever their names
--- mean; `symbols` gives the files of names, in order, `text` says whether their lines are kept, and `bottom` where the relocatable sections of listings and objects begin
+-- mean; `symbols` gives the files of names, in order, `text` says whether the lines of their listings are kept, and `bottom` where the
+-- relocatable sections of listings and objects begin
 pub record IsTraceTask (rows : List Row) (task : TraceTask) : Type 0 where
   pub sim : IsSimTask rows task.sim
   pub first : task.from ≡ first_shown rows
