@@ -8,5 +8,6 @@ pub mod FoundSymbols
 pub mod FoundContributions
 pub mod MapText
 pub mod Nearest
+pub mod Entered
 pub mod Unnamed
 pub mod Shown

@@ -8,7 +8,7 @@ use Rattle.m11_base_disassembly.specs.declared.symbols.Symbol.{Symbol}
 
 -- ---- the order of symbols
 
-no_higher : (a b : ℕ) → nat_le a b ≡ true → a ≤ b
+pub no_higher : (a b : ℕ) → nat_le a b ≡ true → a ≤ b
 no_higher a b h = elim (cases_lt b a) [
   | inl below ↦ let no : true ≡ false = sym h ∙ lt-leb a b below in absurd cc
   | inr above ↦ above
@@ -17,14 +17,14 @@ no_higher a b h = elim (cases_lt b a) [
 no_longer : (a b c : ℕ) → nat_le b a ≡ true → nat_le c b ≡ true → nat_le c a ≡ true
 no_longer a b c h k = let one = no_higher b a h in let two = no_higher c b k in le-leb c a (omega (arith, one, two))
 
-other_way : (a b : ℕ) → nat_le b a ≡ false → nat_le a b ≡ true
+pub other_way : (a b : ℕ) → nat_le b a ≡ false → nat_le a b ≡ true
 other_way a b h = elim (cases_lt b a) [
   | inl below ↦ let no : true ≡ false = sym (le-leb b a (omega (arith, below))) ∙ h in absurd cc
   | inr above ↦ le-leb a b above
 ]
 
 module _ (symbol other third : Symbol) where
-  goes_on : goes_before symbol other ≡ true → goes_before other third ≡ true → goes_before symbol third ≡ true
+  pub goes_on : goes_before symbol other ≡ true → goes_before other third ≡ true → goes_before symbol third ≡ true
   goes_on = no_longer (order symbol.scope symbol.value) (order other.scope other.value) (order third.scope third.value)
 
   goes_past : goes_before symbol other ≡ true → goes_before third other ≡ false → goes_before symbol third ≡ true

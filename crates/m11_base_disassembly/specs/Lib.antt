@@ -16,5 +16,6 @@ pub mod Places
 pub mod References
 pub mod Rows
 pub mod Statements
+pub mod SymbolIndex
 pub mod Symbols
 pub mod Texts

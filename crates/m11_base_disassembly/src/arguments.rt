@@ -11,7 +11,7 @@ ghost use Rattle.m11_base_disassembly.specs.Texts as spec;
 use crate::numbers::put_number;
 use crate::references::{Reference, put_address_or, put_number_or};
 use crate::source::{Source, put};
-use crate::symbols::Symbol;
+use crate::symbol_index::Symbols;
 use m11_base::{Mode, Operand, Register};
 
 /// The name of a register.
@@ -96,7 +96,7 @@ fn put_by_register(
 // refers to, and `after` the location after that word.
 fn put_by_counter(
     line: &mut Source,
-    symbols: &[Symbol],
+    symbols: &Symbols,
     reference: &Option<Reference>,
     mode: Mode,
     after: u16,
@@ -132,7 +132,7 @@ fn put_by_counter(
 #[tactic(auto, using(crate::proofs::Unnamed::by_register_alone))]
 pub(crate) fn put_argument(
     line: &mut Source,
-    symbols: &[Symbol],
+    symbols: &Symbols,
     reference: &Option<Reference>,
     operand: Operand,
     after: u16,

@@ -15,7 +15,8 @@ use crate::names::{put_bare_name, put_name, row_named};
 use crate::numbers::put_number;
 use crate::references::{References, put_number_or, reference_after};
 use crate::source::{Source, put};
-use crate::symbols::{Symbol, put_address};
+use crate::symbol_index::Symbols;
+use crate::symbols::put_address;
 use m11_base::{Insn, Operand, Register, Row, decode};
 
 /// A line of source, and the number of words that it was made from.
@@ -76,7 +77,7 @@ fn words_after(instruction: &Insn) -> usize
 // Adds the first operand. Its word, if it has one, is the first after the code.
 fn put_first(
     line: &mut Source,
-    symbols: &[Symbol],
+    symbols: &Symbols,
     references: &References,
     location: u16,
     more: &[u16],
@@ -100,7 +101,7 @@ fn put_first(
 // Adds the second operand. Its word, if it has one, follows the code and any word of the first operand.
 fn put_second(
     line: &mut Source,
-    symbols: &[Symbol],
+    symbols: &Symbols,
     references: &References,
     location: u16,
     more: &[u16],
@@ -148,7 +149,7 @@ pub fn byte_source(byte: u8) -> Source
 #[tactic(auto, using(crate::proofs::Written::words_written_are))]
 fn put_double(
     line: &mut Source,
-    symbols: &[Symbol],
+    symbols: &Symbols,
     references: &References,
     location: u16,
     more: &[u16],
@@ -178,7 +179,7 @@ fn put_double(
 // Adds the operands of an instruction that has an operand and then a register.
 fn put_extended(
     line: &mut Source,
-    symbols: &[Symbol],
+    symbols: &Symbols,
     references: &References,
     location: u16,
     more: &[u16],
@@ -198,7 +199,7 @@ fn put_extended(
 // Adds the operands of an instruction that has a register and then an operand.
 fn put_with_register(
     line: &mut Source,
-    symbols: &[Symbol],
+    symbols: &Symbols,
     references: &References,
     location: u16,
     more: &[u16],
@@ -216,7 +217,7 @@ fn put_with_register(
 }
 
 // Adds the operands of SOB: a register, and the address of the target.
-fn put_loop(line: &mut Source, symbols: &[Symbol], register: Register, address: u16)
+fn put_loop(line: &mut Source, symbols: &Symbols, register: Register, address: u16)
     requires { array_vec_len line.old ≤ 11 }
     ensures text { line.new.items ≡ line.old.items ++ (register_text register ++ 44 ∷ address_text symbols.now address) }
     ensures room { array_vec_len line.new ≤ array_vec_len line.old + 37 }
@@ -246,7 +247,7 @@ pub(crate) fn target_of(location: u16, instruction: Insn) -> u16
 // Adds the name and the operands of an instruction.
 fn put_named(
     line: &mut Source,
-    symbols: &[Symbol],
+    symbols: &Symbols,
     references: &References,
     name: &[u8; 6],
     location: u16,
@@ -312,7 +313,7 @@ fn put_named(
 
 // The line of an instruction with this name.
 fn named_source(
-    symbols: &[Symbol],
+    symbols: &Symbols,
     references: &References,
     name: &[u8; 6],
     location: u16,
@@ -364,7 +365,7 @@ pub fn statement_size(word: u16, more: &[u16]) -> usize
 /// section is known or its value is the address; otherwise in octal, as are numbers after `#`, and indexes. But a word of an operand with a
 /// reference is written as what it refers to, if both are relative or neither is, and so is a word of data, which isn't relative.
 pub fn disassembled(
-    symbols: &[Symbol],
+    symbols: &Symbols,
     references: &References,
     location: u16,
     word: u16,

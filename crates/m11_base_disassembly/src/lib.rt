@@ -1,7 +1,8 @@
 //! Disassembly: for words at a location, the line of source from which an assembler produces the same words there. (MACRO-11
 //! Language Reference Manual, "Addressing modes"; PDP-11/40 Processor Handbook, "Instruction set".) This crate also names
 //! addresses by the globals in the maps of links and in load maps, and by the names in listings, and finds the line of a listing that shows
-//! the word at an address. Memory is allocated only for the text of a file of names, for these names and for the lines of listings.
+//! the word at an address. Memory is allocated only for the text of a file of names, for these names and their index, and for the lines of
+//! listings.
 #![tactic(auto)]
 
 // Line buffers, and the parts of a line: names of operations, numbers, references and operands.
@@ -31,12 +32,14 @@ mod map_fault;
 mod maps;
 mod places;
 mod rows;
+mod symbol_index;
 mod symbols;
 
 pub use contributions::Contribution;
 pub use kept::Kept;
 pub use map_fault::MapFault;
 pub use maps::{NamesSoFar, read_text};
+pub use symbol_index::Symbols;
 pub use symbols::{
     Scope, Symbol, address_name, address_source, name_source, number_source, value_named,
 };

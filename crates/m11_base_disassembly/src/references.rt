@@ -9,7 +9,8 @@ ghost use Rattle.m11_base_disassembly.specs.Symbols.{address_text};
 use crate::names::{is_written, put_bare_name};
 use crate::numbers::{put_distance, put_number};
 use crate::source::Source;
-use crate::symbols::{Symbol, put_address};
+use crate::symbol_index::Symbols;
+use crate::symbols::put_address;
 use m11_base::Name;
 
 /// What a word refers to in an object, as a relocation says it.
@@ -120,7 +121,7 @@ pub(crate) fn put_number_or(line: &mut Source, reference: &Option<Reference>, nu
 /// symbols have one for it, or in octal.
 pub(crate) fn put_address_or(
     line: &mut Source,
-    symbols: &[Symbol],
+    symbols: &Symbols,
     is_relative: bool,
     reference: &Option<Reference>,
     address: u16,

@@ -10,6 +10,7 @@ ghost use Rattle.m11_base_disassembly.specs.Symbols as spec;
 use crate::names::{is_bare, is_written, put_bare_name};
 use crate::numbers::{put_distance, put_number};
 use crate::source::{Source, put};
+use crate::symbol_index::Symbols;
 use m11_base::Name;
 
 /// Which addresses a symbol may name.
@@ -35,17 +36,6 @@ pub struct Symbol {
     pub scope: Scope,
 }
 
-// Whether a symbol may name an address.
-fn reaches(address: u16, symbol: &Symbol) -> bool
-    ensures { result ≡ spec.reaches address symbol.now }
-{
-    let is_within = match symbol.scope {
-        Scope::Unknown => true,
-        Scope::Label(end) | Scope::Section(end) => u32::from(address) < end,
-    };
-    symbol.value <= address && is_within
-}
-
 // The number by which symbols that may name an address are ordered, the greatest first: those whose section is known before the others, higher
 // values before lower ones, and of one value a label before a section.
 fn order(symbol: &Symbol) -> u32
@@ -59,46 +49,11 @@ fn order(symbol: &Symbol) -> u32
     }
 }
 
-// Whether a symbol comes no later than another one in that order.
-fn goes_before(symbol: &Symbol, other: &Symbol) -> bool
+/// Whether a symbol comes no later than another one in the order of symbols that may name an address.
+pub(crate) fn goes_before(symbol: &Symbol, other: &Symbol) -> bool
     ensures { result ≡ spec.goes_before symbol.now other.now }
 {
     order(other) <= order(symbol)
-}
-
-// `symbol`, if it may name an address and goes before `later`, which was found among the symbols after it; otherwise `later`.
-fn nearer(address: u16, symbol: Symbol, later: Option<Symbol>) -> Option<Symbol>
-    ensures { result ≡ spec.nearer address symbol later }
-{
-    match later {
-        None => {
-            if reaches(address, &symbol) {
-                Some(symbol)
-            } else {
-                None
-            }
-        }
-        Some(other) => {
-            if reaches(address, &symbol) && goes_before(&symbol, &other) {
-                Some(symbol)
-            } else {
-                Some(other)
-            }
-        }
-    }
-}
-
-// Of the symbols that may name an address the one that goes before the others, the first one if there are several; or none if no symbol may.
-fn nearest(address: u16, symbols: &[Symbol]) -> Option<Symbol>
-    ensures { result ≡ spec.nearest address symbols.now }
-{
-    let mut best = None;
-    let mut rest = symbols;
-    'symbols: while let [others @ .., symbol] = rest {
-        best = nearer(address, *symbol, best);
-        rest = others;
-    }
-    best
 }
 
 // Adds a symbol, and the distance of an address from it.
@@ -114,13 +69,13 @@ fn put_name_from(line: &mut Source, symbol: &Symbol, address: u16)
 /// The name of an address after a prefix of at most two characters: the nearest symbol at or below it, and the distance from there
 /// in octal unless it is 0, as in `PUTS+4`. Symbols whose section has the address go before those without a section. Empty if no symbol may
 /// name the address.
-pub fn address_name(first: &[u8], symbols: &[Symbol], address: u16) -> Source
+pub fn address_name(first: &[u8], symbols: &Symbols, address: u16) -> Source
     requires { length first.now ≤ 2 }
     ensures items { result.items ≡ spec.address_name first.now symbols.now address }
     ensures size { array_vec_len result ≤ length first.now + 13 }
 {
     let mut line = Source::new();
-    if let Some(symbol) = nearest(address, symbols) {
+    if let Some(symbol) = symbols.nearest(address) {
         put(&mut line, first);
         put_name_from(&mut line, &symbol, address);
     }
@@ -140,12 +95,12 @@ fn stands_for(address: u16, symbol: &Symbol) -> bool
 
 /// Adds an address as an operand shows it: its nearest symbol and the distance from there, if that symbol may stand for it, and otherwise the
 /// address in octal.
-pub(crate) fn put_address(line: &mut Source, symbols: &[Symbol], address: u16)
+pub(crate) fn put_address(line: &mut Source, symbols: &Symbols, address: u16)
     requires { array_vec_len line.old ≤ 35 }
     ensures text { line.new.items ≡ line.old.items ++ spec.address_text symbols.now address }
     ensures room { array_vec_len line.new ≤ array_vec_len line.old + 13 }
 {
-    match nearest(address, symbols) {
+    match symbols.nearest(address) {
         Some(symbol) if stands_for(address, &symbol) => put_name_from(line, &symbol, address),
         _ => put_number(line, address),
     }
@@ -153,7 +108,7 @@ pub(crate) fn put_address(line: &mut Source, symbols: &[Symbol], address: u16)
 
 /// An address as an operand shows it: its nearest symbol and the distance from there, if that symbol's section is known or its value is the
 /// address; otherwise the address in octal.
-pub fn address_source(symbols: &[Symbol], address: u16) -> Source
+pub fn address_source(symbols: &Symbols, address: u16) -> Source
     ensures items { result.items ≡ spec.address_text symbols.now address }
     ensures size { array_vec_len result ≤ 13 }
 {
