@@ -11,8 +11,9 @@ use crate::instructions::put_line;
 use crate::octets::location_after;
 use crate::references::references_at;
 use crate::relocations::{names_byte, relocation_line, stores};
+use m11_base_disassembly::Symbols;
 use m11_obj::Relocation;
-use std::alloc::AllocError;
+use std::alloc::{AllocError, Global};
 
 /// Adds the lines of the relocations of the text at this address. Fails if memory is refused.
 pub(crate) fn put_places(
@@ -107,6 +108,7 @@ pub(crate) fn put_other_places(
 // Adds the line that begins with the first of `bytes`, which lies at this location and has this index in its text, unless the previous line
 // shows that byte. `shown` is how many of `bytes` the previous line shows. Returns how many of the bytes after the first one are now shown.
 fn put_line_at(
+    alloc: Global,
     text: &mut Vec<u8>,
     places: &[Relocation],
     index: usize,
@@ -122,7 +124,7 @@ fn put_line_at(
 {
     if shown == 0 {
         let references = references_at(places, index);
-        let size = put_line(text, &[], &references, location, bytes)?;
+        let size = put_line(text, &Symbols::none(alloc), &references, location, bytes)?;
         Ok(size - 1)
     } else {
         Ok(shown - 1)
@@ -133,6 +135,7 @@ fn put_line_at(
 /// first `own` of `bytes`, at most 65,536, of which the first `shown` were shown before; the others belong to the next text.
 /// Returns how many of the others the last line shows. Fails if memory is refused.
 pub(crate) fn put_lines_beside(
+    alloc: Global,
     text: &mut Vec<u8>,
     address: u16,
     bytes: &[u8],
@@ -150,6 +153,7 @@ pub(crate) fn put_lines_beside(
     let mut left = shown;
     'bytes: for index in 0..own {
         left = put_line_at(
+            alloc,
             text,
             places,
             index,

@@ -78,7 +78,15 @@ fn lines_as_source(alloc: Global, held: &HeldText, beyond: &[u8]) -> Result<Line
     bytes.extend_from_slice(beyond)?;
     let mut text = Vec::new(alloc);
     put_head(&mut text, b"TEXT ", held.address)?;
-    let over = put_lines_beside(&mut text, held.address, &bytes, count, held.shown, places)?;
+    let over = put_lines_beside(
+        alloc,
+        &mut text,
+        held.address,
+        &bytes,
+        count,
+        held.shown,
+        places,
+    )?;
     put_other_places(&mut text, held.address, count, places)?;
     Ok(Lines { text, over })
 }

@@ -10,7 +10,7 @@ use crate::words::word_of;
 use arrayvec::ArrayVec;
 use m11_base::octal6;
 use m11_base_disassembly::{
-    References, Source, Symbol, address_name, byte_source, disassembled, is_data, no_references,
+    References, Source, Symbols, address_name, byte_source, disassembled, is_data, no_references,
     word_source,
 };
 use m11_obj_print::{Line, add_bytes};
@@ -55,7 +55,7 @@ fn following(bytes: &[u8]) -> ArrayVec<u16, 2>
 // The statement at this location, where these bytes begin, with the names that these symbols give to addresses in operands, and these references
 // of its words: a word of data if its own reference stands for it; a data byte if the location is odd or only one byte is left; without bytes, a
 // data byte of 0.
-fn front_of(symbols: &[Symbol], references: &References, location: u16, bytes: &[u8]) -> Front
+fn front_of(symbols: &Symbols, references: &References, location: u16, bytes: &[u8]) -> Front
     requires { 0 < length bytes.now }
     ensures source { result.source.items ≡ statement_text symbols.now references.now (spec.front_statement references.now location bytes.now) }
     ensures size { result.size ≡ spec.front_size references.now location bytes.now }
@@ -147,7 +147,7 @@ fn line_by(location: u16, shown: &[u8], source: &[u8], comment: &[u8]) -> Line
 /// references of its words, and a comment that names the location by the nearest of `symbols` at or below it, if there is one. Returns how many bytes the line shows. Fails if memory is refused.
 pub(crate) fn put_line(
     text: &mut Vec<u8>,
-    symbols: &[Symbol],
+    symbols: &Symbols,
     references: &References,
     location: u16,
     bytes: &[u8],
@@ -181,7 +181,7 @@ pub(crate) fn put_head(text: &mut Vec<u8>, word: &[u8], address: u16) -> Result<
 /// line shows. Fails if memory is refused.
 pub(crate) fn put_lines(
     text: &mut Vec<u8>,
-    symbols: &[Symbol],
+    symbols: &Symbols,
     address: u16,
     bytes: &[u8],
     own: usize,

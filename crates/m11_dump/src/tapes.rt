@@ -18,7 +18,7 @@ use crate::positions::{fault_byte, placed};
 use crate::view::View;
 use crate::words::put_data;
 use m11_base::{Feed, Sink, octal6};
-use m11_base_disassembly::Symbol;
+use m11_base_disassembly::Symbols;
 use m11_base_writes::put_or_fail;
 use m11_obj_blocks::{TapePart, TapeReader};
 use std::alloc::{AllocError, Global};
@@ -52,7 +52,7 @@ fn octal_lines(alloc: Global, block: &Held) -> Result<Lines, AllocError>
 // The lines of a block as instructions. `beyond` holds the first bytes of the block that continues it.
 fn source_lines(
     alloc: Global,
-    symbols: &[Symbol],
+    symbols: &Symbols,
     block: &Held,
     beyond: &[u8],
 ) -> Result<Lines, AllocError>
@@ -80,7 +80,7 @@ fn source_lines(
 fn block_lines(
     alloc: Global,
     view: View,
-    symbols: &[Symbol],
+    symbols: &Symbols,
     block: &Held,
     beyond: &[u8],
 ) -> Result<Lines, AllocError>
@@ -117,7 +117,7 @@ fn show_start<S: Sink>(alloc: Global, address: u16, sink: &mut S) -> Result<(), 
 fn show_block<S: Sink>(
     alloc: Global,
     view: View,
-    symbols: &[Symbol],
+    symbols: &Symbols,
     block: &Held,
     beyond: &[u8],
     sink: &mut S,
@@ -195,7 +195,7 @@ fn beyond_of<'a>(held: &Option<Held>, address: u16, bytes: &'a [u8]) -> &'a [u8]
 fn show_held<S: Sink>(
     alloc: Global,
     view: View,
-    symbols: &[Symbol],
+    symbols: &Symbols,
     held: &Option<Held>,
     beyond: &[u8],
     reader: &TapeReader,
@@ -219,7 +219,7 @@ fn show_held<S: Sink>(
 fn stopped<S: Sink>(
     alloc: Global,
     view: View,
-    symbols: &[Symbol],
+    symbols: &Symbols,
     held: &Option<Held>,
     fault: DumpFault,
     before: u64,
@@ -241,7 +241,7 @@ fn stopped<S: Sink>(
 fn show_end<S: Sink>(
     alloc: Global,
     view: View,
-    symbols: &[Symbol],
+    symbols: &Symbols,
     held: &Option<Held>,
     address: u16,
     passed: u64,
@@ -272,7 +272,7 @@ fn show_end<S: Sink>(
 pub fn dump_tape<F: Feed, S: Sink>(
     alloc: Global,
     view: View,
-    symbols: &[Symbol],
+    symbols: &Symbols,
     feed: &mut F,
     sink: &mut S,
 ) -> Result<(), LocatedFault>
