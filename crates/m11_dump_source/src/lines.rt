@@ -9,7 +9,7 @@ ghost use Rattle.m11_dump_source.specs.Lines as spec;
 
 use arrayvec::ArrayVec;
 use m11_base_disassembly::{
-    Addresses, Source, Symbol, addresses, byte_source, disassembled, no_references, statement_size,
+    Addresses, Source, Symbols, addresses, byte_source, disassembled, no_references, statement_size,
 };
 use std::alloc::{AllocError, Global};
 
@@ -145,7 +145,7 @@ impl Shown {
 }
 
 /// The line of source, without a line feed. Addresses in it have the names of these symbols.
-pub(crate) fn source_of(symbols: &[Symbol], line: Line) -> Source
+pub(crate) fn source_of(symbols: &Symbols, line: Line) -> Source
     ensures { result.items ≡ statement_text symbols.now no_references (spec.statement_in line) }
 {
     match line.shown {

@@ -7,7 +7,7 @@ ghost use Rattle.m11_dump_source.specs.Texts as spec;
 
 use crate::labels::{is_kept, kept_of, symbols_in};
 use crate::lines::{Line, lines_of, source_of};
-use m11_base_disassembly::{Symbol, address_source, name_source, number_source};
+use m11_base_disassembly::{Symbol, Symbols, address_source, name_source, number_source};
 use std::alloc::{AllocError, Global};
 
 // Whether a line begins at this address.
@@ -95,17 +95,17 @@ fn put_moving(text: &mut Vec<u8>, here: usize, address: u16) -> Result<(), Alloc
 }
 
 // Adds a line after its labels. Fails if memory is refused.
-fn put_line(text: &mut Vec<u8>, symbols: &[Symbol], line: Line) -> Result<(), AllocError>
+fn put_line(text: &mut Vec<u8>, symbols: &Symbols, line: Line) -> Result<(), AllocError>
     ensures { OnOk result (text.new.items ≡ text.old.items ++ spec.line_text symbols.now line) }
 {
-    put_labels(text, symbols, line.address)?;
+    put_labels(text, symbols.as_slice(), line.address)?;
     text.extend_from_slice(b"\t")?;
     text.extend_from_slice(&source_of(symbols, line))?;
     text.extend_from_slice(b"\n")
 }
 
 // Adds lines one after another, the first where the location counter is 0. Fails if memory is refused.
-fn put_lines(text: &mut Vec<u8>, symbols: &[Symbol], lines: &[Line]) -> Result<(), AllocError>
+fn put_lines(text: &mut Vec<u8>, symbols: &Symbols, lines: &[Line]) -> Result<(), AllocError>
     ensures { OnOk result (text.new.items ≡ text.old.items ++ spec.lines_text symbols.now 0 lines.now) }
 {
     let mut here = 0;
@@ -120,7 +120,7 @@ fn put_lines(text: &mut Vec<u8>, symbols: &[Symbol], lines: &[Line]) -> Result<(
 }
 
 // Adds the last line, with the transfer address, unless that is odd. Fails if memory is refused.
-fn put_end(text: &mut Vec<u8>, symbols: &[Symbol], start: u16) -> Result<(), AllocError>
+fn put_end(text: &mut Vec<u8>, symbols: &Symbols, start: u16) -> Result<(), AllocError>
     ensures { OnOk result (text.new.items ≡ text.old.items ++ spec.end_text symbols.now start) }
 {
     text.extend_from_slice(b"\t.END")?;
@@ -143,7 +143,7 @@ pub(crate) fn source_text(
 {
     let lines = lines_of(alloc, memory)?;
     let kept = kept_of(alloc, symbols)?;
-    let all = symbols_in(alloc, &kept, start, &lines)?;
+    let all = Symbols::new(alloc, symbols_in(alloc, &kept, start, &lines)?)?;
     let mut text = Vec::new(alloc);
     text.extend_from_slice(b"\t.ASECT\n")?;
     put_assignments(&mut text, &lines, &kept)?;
