@@ -5,7 +5,10 @@ use Rattle.std.specs.Prelude.{IfErr}
 use Rattle.std.specs.Borrow.{Bor}
 use Rattle.m11_base.specs.Feed.{Text}
 use Rattle.m11_base_files.specs.Opens.{AreFiles, Files, Holds, Lacks}
-use Rattle.m11_link_load_map.specs.NameFiles.{AddsFile, AddsFiles, GiveAll, HasFile, HoldsObject, LacksNames, NoneNamed, ObjectsLack, is_object}
+use Rattle.m11_link_load_map.specs.NameFiles.{AddsFile, AddsFiles, GiveAll, HasFile, HoldsObject, LacksNames, Names, NoneNamed, ObjectsLack, is_object}
+use Rattle.m11_base_disassembly.specs.ListedLines.{listing_of}
+use Rattle.m11_base_disassembly.specs.declared.listed_lines.PlacedListing as declared
+use Rattle.m11_base_disassembly.specs.declared.symbols.Symbol.{Symbol}
 use Rattle.m11_base_disassembly.specs.Maps.{NamesSoFar, nothing, with_text}
 use Rattle.m11_base_disassembly.specs.declared.kept.Kept.{Kept}
 use Rattle.m11_base_disassembly.specs.declared.map_fault.MapFault.{MapFault}
@@ -121,3 +124,11 @@ none_named {A} {I} text faults kept bottom files paths found objects own inputs 
     let P : List (List ℕ) → Type 0 = λ these. ObjectsLack text faults bottom these opened none in
     let Q : List I → Type 0 = λ these. ObjectsLack text faults bottom objects these none in
     inr (found, own, opened, given, are, subst P o (subst Q i h))
+
+-- no files give no names
+pub none_from : {I : Type 0} (text : I → Option Text) (faults : I → ℕ) (kept : Kept) (bottom : ℕ) (files : Option Files)
+    (paths : List (Bor (List ℕ))) (symbols : List Symbol) (listings : List declared.PlacedListing) → length paths < 1 → symbols ≡ []
+    → listings ≡ [] → Names text faults kept bottom files (texts paths) symbols (map listing_of listings)
+none_from text faults kept bottom files [] symbols listings none no_symbols no_listings =
+    (nothing kept, [], [], (refl, refl), tt, ([], refl, no_symbols), ap (map listing_of) no_listings)
+none_from text faults kept bottom files (path ∷ paths) symbols listings none no_symbols no_listings = absurd (omega (arith, none))

@@ -1,14 +1,16 @@
 //! The names of addresses, in files.
 
-ghost use Rattle.std.specs.Prelude.{◌≡◌, ◌++◌, ℕ, IfErr, IfOk, map};
+ghost use Rattle.std.specs.Prelude.{◌≡◌, ◌++◌, [], ℕ, IfErr, IfOk, map};
 ghost use Rattle.m11_base.specs.Feed.{HasBytes};
 ghost use Rattle.m11_base_disassembly.specs.ListedLines.{listing_of};
 ghost use Rattle.m11_base_disassembly.specs.Maps.{IsUnread, so_far};
+ghost use Rattle.m11_base_disassembly.specs.declared.map_fault.MapFault.TheVariants.{NoMemory};
 ghost use Rattle.m11_link_load_map.specs.NameFiles as spec;
+ghost use Rattle.m11_link_load_map.specs.declared.name_files.NoNames.TheVariants.{InFile};
 
 use crate::objects::add_object_names;
 use m11_base::Feed;
-use m11_base_disassembly::{Kept, MapFault, NamesSoFar, PlacedListing, Symbol, read_text};
+use m11_base_disassembly::{Kept, MapFault, NamesSoFar, PlacedListing, Symbol, Symbols, read_text};
 use m11_base_files::{OpenRefusal, Opens};
 use std::alloc::Global;
 
@@ -26,9 +28,16 @@ pub enum NoNames<'a> {
 #[derive(Drop)]
 pub struct FileNames {
     /// The names of addresses.
-    pub symbols: Vec<Symbol>,
+    pub symbols: Symbols,
     /// The listings among the files with their lines, in order; none if only names are kept.
     pub listings: Vec<PlacedListing>,
+}
+
+// The names that files give, before they have an index, and the listings.
+#[derive(Drop)]
+struct ListedNames {
+    symbols: Vec<Symbol>,
+    listings: Vec<PlacedListing>,
 }
 
 // What has been found so far in files of names.
@@ -47,7 +56,8 @@ struct Found<'a, I> {
 /// with their lines too. A listing lies where the contributions of its module do in the last load map before it; without a load map before
 /// it, and in a link of the objects, relocatable sections begin at `bottom`. Each file is opened and read before the next; an object is then
 /// opened again, as for two passes, and must be a file that can be read more than once. Error: why a file gives no names, for the first such
-/// file; or else why a link of the objects is refused, with the path of the object at fault.
+/// file; or else why a link of the objects is refused, with the path of the object at fault; or else, if memory is refused for the index of
+/// the names, `NoMemory` with the path of the first file.
 pub fn read_names<'a, F: Opens>(
     alloc: Global,
     files: &mut F,
@@ -55,6 +65,58 @@ pub fn read_names<'a, F: Opens>(
     bottom: u16,
     paths: &[&'a str],
 ) -> Result<FileNames, NoNames<'a>>
+    ensures names { IfOk result (λ names. spec.Names F.Input.text F.Input.faults kept bottom (F.files files.old)
+        (map (λ path. path.now) paths.now) names.symbols (map listing_of names.listings.items)) }
+    ensures none { IfErr result (spec.NoneNamed F.Input.text F.Input.faults kept bottom (F.files files.old)
+        (map (λ path. path.now) paths.now)) }
+    ensures files { F.files files.new ≡ F.files files.old }
+    ensures counts { spec.Counts (F.refusals files.old) (F.refusals files.new) result }
+{
+    match paths {
+        [] => Ok(no_names(alloc)),
+        [first, ..] => match listed_names(alloc, files, kept, bottom, paths) {
+            Ok(names) => with_index(alloc, names, *first),
+            Err(none) => Err(none),
+        },
+    }
+}
+
+// What no files give.
+fn no_names(alloc: Global) -> FileNames
+    ensures symbols { result.symbols ≡ [] }
+    ensures listings { result.listings.items ≡ [] }
+{
+    FileNames {
+        symbols: Symbols::none(alloc),
+        listings: Vec::new(alloc),
+    }
+}
+
+// The names with an index. Error: memory was refused, for which this file stands.
+fn with_index<'a>(
+    alloc: Global,
+    names: ListedNames,
+    path: &'a str,
+) -> Result<FileNames, NoNames<'a>>
+    ensures symbols { IfOk result (λ all. all.symbols ≡ names.symbols.items) }
+    ensures listings { IfOk result (λ all. all.listings ≡ names.listings) }
+    ensures none { IfErr result (λ none. none ≡ InFile path.entry NoMemory) }
+{
+    let ListedNames { symbols, listings } = names;
+    match Symbols::new(alloc, symbols) {
+        Ok(symbols) => Ok(FileNames { symbols, listings }),
+        Err(_) => Err(NoNames::InFile(path, MapFault::NoMemory)),
+    }
+}
+
+// The names in files at these paths, as `read_names` has them. Error: as there.
+fn listed_names<'a, F: Opens>(
+    alloc: Global,
+    files: &mut F,
+    kept: Kept,
+    bottom: u16,
+    paths: &[&'a str],
+) -> Result<ListedNames, NoNames<'a>>
     ensures names { IfOk result (λ names. spec.Names F.Input.text F.Input.faults kept bottom (F.files files.old)
         (map (λ path. path.now) paths.now) names.symbols.items (map listing_of names.listings.items)) }
     ensures none { IfErr result (spec.NoneNamed F.Input.text F.Input.faults kept bottom (F.files files.old)
@@ -79,7 +141,7 @@ fn with_objects<'a, F: Opens>(
     files: &F,
     bottom: u16,
     found: Found<'a, F::Input>,
-) -> Result<FileNames, NoNames<'a>>
+) -> Result<ListedNames, NoNames<'a>>
     ensures names { IfOk result (λ names. spec.WithObjects F.Input.text F.Input.faults bottom (map (λ path. path.now) found.entry.objects.items)
         found.entry.inputs.items found.entry.names.symbols.items names.symbols.items) }
     ensures listings { IfOk result (λ names. names.listings ≡ found.entry.names.listings) }
@@ -107,7 +169,7 @@ fn with_objects<'a, F: Opens>(
         objects.as_slice(),
         inputs.as_mut_slice(),
     ) {
-        Ok(()) => Ok(FileNames { symbols, listings }),
+        Ok(()) => Ok(ListedNames { symbols, listings }),
         Err(none) => Err(none),
     }
 }

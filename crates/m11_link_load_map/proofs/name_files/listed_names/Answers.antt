@@ -2,7 +2,7 @@ use Rattle.std.proofs.Common.{◌∙◌, ◌++◌, subst, ap}
 use Rattle.m11_base_disassembly.specs.Maps.{NamesSoFar, so_far}
 use Rattle.m11_link_load_map.specs.NameFiles.{GiveAll}
 use Rattle.m11_link_load_map.proofs.NamesAdded.{none_named, texts}
-use Rattle.m11_link_load_map.proofs.name_files.read_names.Goals as goal
+use Rattle.m11_link_load_map.proofs.name_files.listed_names.Goals as goal
 
 pub returns-in-Ok-clause-none : goal.returns-in-Ok-clause-none
 returns-in-Ok-clause-none g c =
