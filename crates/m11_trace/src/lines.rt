@@ -8,11 +8,11 @@ ghost use Rattle.m11_trace.specs.Lines as spec;
 use crate::line::{Line, add, add_word};
 use crate::shots::{InstructionWords, Shot};
 use itoa::Buffer;
-use m11_base_disassembly::{Symbol, address_name, disassembled, no_references};
+use m11_base_disassembly::{Symbols, address_name, disassembled, no_references};
 
 // Adds an address in octal, and after a blank its name: the nearest of these symbols at or below it, with the distance from that
 // symbol; no name if there is no such symbol.
-fn add_place(line: &mut Line, symbols: &[Symbol], address: u16)
+fn add_place(line: &mut Line, symbols: &Symbols, address: u16)
     requires { array_vec_len line.old ≤ 154 }
     ensures items { line.new.items ≡ line.old.items ++ spec.place_text symbols.now address }
     ensures size { array_vec_len line.new ≤ array_vec_len line.old + 20 }
@@ -23,7 +23,7 @@ fn add_place(line: &mut Line, symbols: &[Symbol], address: u16)
 
 // Adds the line of source of the instruction with these words at this location, with the names that these symbols give to addresses in
 // operands.
-fn add_words(line: &mut Line, symbols: &[Symbol], location: u16, word: u16, more: &[u16])
+fn add_words(line: &mut Line, symbols: &Symbols, location: u16, word: u16, more: &[u16])
     requires { array_vec_len line.old ≤ 76 }
     ensures items { line.new.items ≡ line.old.items ++ spec.source_text symbols.now location (word ∷ more.now) }
     ensures size { array_vec_len line.new ≤ array_vec_len line.old + 48 }
@@ -33,7 +33,7 @@ fn add_words(line: &mut Line, symbols: &[Symbol], location: u16, word: u16, more
 }
 
 // Adds the line of source of the instruction fetched at this location, with these names; nothing if no word was fetched.
-fn add_source(line: &mut Line, symbols: &[Symbol], location: u16, fetched: InstructionWords)
+fn add_source(line: &mut Line, symbols: &Symbols, location: u16, fetched: InstructionWords)
     requires { array_vec_len line.old ≤ 76 }
     ensures items { line.new.items ≡ line.old.items ++ spec.source_text symbols.now location (words_in fetched) }
     ensures size { array_vec_len line.new ≤ array_vec_len line.old + 48 }
@@ -92,7 +92,7 @@ fn add_registers(line: &mut Line, before: &[u16; 8], later: &[u16; 8])
 
 /// The part of a trace line before its memory words.
 #[tactic(auto, unfolding(crate::specs::Lines::line_front))]
-pub(crate) fn line_front(symbols: &[Symbol], number: u32, shot: &Shot) -> Line
+pub(crate) fn line_front(symbols: &Symbols, number: u32, shot: &Shot) -> Line
     ensures items { result.items ≡ spec.line_front symbols.now number shot.now }
     ensures size { array_vec_len result ≤ 180 }
 {
