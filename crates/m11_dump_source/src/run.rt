@@ -8,7 +8,7 @@ ghost use Rattle.m11_dump_source.specs.Run as spec;
 use crate::memory::memory_after;
 use crate::texts::source_text;
 use m11_base::{Feed, Sink};
-use m11_base_disassembly::Symbol;
+use m11_base_disassembly::Symbols;
 use m11_base_writes::put_or_fail;
 use m11_dump::{LocatedFault, WholeTape, read_tape};
 use std::alloc::{AllocError, Global};
@@ -33,7 +33,7 @@ impl From<LocatedFault> for SourceFault {
 }
 
 // The source of a tape, with these names. Fails if memory is refused.
-fn tape_source(alloc: Global, symbols: &[Symbol], tape: &WholeTape) -> Result<Vec<u8>, AllocError>
+fn tape_source(alloc: Global, symbols: &Symbols, tape: &WholeTape) -> Result<Vec<u8>, AllocError>
     ensures { IfOk result (λ text. text.items ≡ spec.tape_source symbols.now tape.now) }
 {
     let memory = memory_after(alloc, &tape.blocks, 65_536)?;
@@ -49,7 +49,7 @@ fn tape_source(alloc: Global, symbols: &[Symbol], tape: &WholeTape) -> Result<Ve
 /// Errors: `Tape`, if the tape can't be read; `Write`, if the sink failed, after part of the source was written; `NoMemory`.
 pub fn write_source<F: Feed, S: Sink>(
     alloc: Global,
-    symbols: &[Symbol],
+    symbols: &Symbols,
     feed: &mut F,
     sink: &mut S,
 ) -> Result<(), SourceFault>

@@ -134,7 +134,7 @@ fn put_end(text: &mut Vec<u8>, symbols: &Symbols, start: u16) -> Result<(), Allo
 /// The source of what memory holds, with these names and this transfer address. Fails if memory is refused.
 pub(crate) fn source_text(
     alloc: Global,
-    symbols: &[Symbol],
+    symbols: &Symbols,
     start: u16,
     memory: &[Option<u8>],
 ) -> Result<Vec<u8>, AllocError>
@@ -142,12 +142,12 @@ pub(crate) fn source_text(
     ensures { IfOk result (λ text. text.items ≡ spec.source_text symbols.now start memory.now) }
 {
     let lines = lines_of(alloc, memory)?;
-    let kept = kept_of(alloc, symbols)?;
+    let kept = kept_of(alloc, symbols.as_slice())?;
     let all = Symbols::new(alloc, symbols_in(alloc, &kept, start, &lines)?)?;
     let mut text = Vec::new(alloc);
     text.extend_from_slice(b"\t.ASECT\n")?;
     put_assignments(&mut text, &lines, &kept)?;
-    put_notes(&mut text, &kept, symbols)?;
+    put_notes(&mut text, &kept, symbols.as_slice())?;
     put_lines(&mut text, &all, &lines)?;
     put_end(&mut text, &all, start)?;
     Ok(text)
