@@ -130,10 +130,10 @@ where
 
 // What is known of addresses by what files of names give.
 fn known_in(names: &FileNames) -> Known<'_>
-    ensures { known_of result ≡ record { symbols = names.now.symbols.items; listings = map listing_of names.now.listings.items } }
+    ensures { known_of result ≡ record { symbols = names.now.symbols; listings = map listing_of names.now.listings.items } }
 {
     Known {
-        symbols: names.symbols.as_slice(),
+        symbols: &names.symbols,
         listings: names.listings.as_slice(),
     }
 }

@@ -7,7 +7,7 @@ ghost use Rattle.m11_cli_tasks.specs.Tasks.{address_of_word};
 ghost use Rattle.m11_tracer.specs.Places as spec;
 
 use m11_base::{OctalFault, read_octal};
-use m11_base_disassembly::{Symbol, value_named};
+use m11_base_disassembly::{Symbols, value_named};
 use m11_cli_reports::{AddressOption, Refusal, reading};
 use m11_cli_tasks::{UsageFault, address, count};
 use m11_trace::{CountedAddress, Range, Stops};
@@ -40,7 +40,7 @@ pub struct Asked {
 /// bad value of a memory range. `NoMemory` at any point, if memory is refused.
 pub(crate) fn asked_of<'a>(
     alloc: Global,
-    symbols: Option<&[Symbol]>,
+    symbols: Option<&Symbols>,
     values: &Values<'a>,
 ) -> Result<Asked, Refusal<'a>>
     ensures { spec.AsksFor (option_map (λ known. known.now) symbols.entry) (spec.value_texts values.now) result }
@@ -70,7 +70,7 @@ pub(crate) fn asked_of<'a>(
 fn add_counted<'a>(
     counted: &mut Vec<CountedAddress>,
     option: AddressOption,
-    symbols: Option<&[Symbol]>,
+    symbols: Option<&Symbols>,
     named: &[&'a str],
 ) -> Result<(), Refusal<'a>>
     ensures { spec.AddsCounted option (option_map (λ known. known.now) symbols.entry) (texts named.now) counted.old.items
@@ -88,7 +88,7 @@ fn add_counted<'a>(
 // Adds the memory ranges that these texts give. Errors: the first text that gives none, or `NoMemory`.
 fn add_ranges<'a>(
     ranges: &mut Vec<Range>,
-    symbols: Option<&[Symbol]>,
+    symbols: Option<&Symbols>,
     named: &[&'a str],
 ) -> Result<(), Refusal<'a>>
     ensures { spec.AddsRanges (option_map (λ known. known.now) symbols.entry) (texts named.now) ranges.old.items ranges.new.items result }
@@ -125,7 +125,7 @@ fn name_and_distance(text: &str) -> (&str, Option<&str>)
 }
 
 // The address with a count that a text PLACE or PLACE:COUNT gives; PLACE alone has the count 1. Error: the fault of the address or count.
-fn counted_of(symbols: Option<&[Symbol]>, text: &str) -> Result<CountedAddress, UsageFault>
+fn counted_of(symbols: Option<&Symbols>, text: &str) -> Result<CountedAddress, UsageFault>
     ensures { result ≡ spec.counted_of (option_map (λ known. known.now) symbols.entry) text.now }
 {
     let (first, second) = parts_of(text);
@@ -140,7 +140,7 @@ fn counted_of(symbols: Option<&[Symbol]>, text: &str) -> Result<CountedAddress, 
 }
 
 // The memory range that a text FIRST or FIRST:LAST gives; FIRST alone is one word. Error: the fault of an address.
-fn range_of(symbols: Option<&[Symbol]>, text: &str) -> Result<Range, UsageFault>
+fn range_of(symbols: Option<&Symbols>, text: &str) -> Result<Range, UsageFault>
     ensures { result ≡ spec.range_of (option_map (λ known. known.now) symbols.entry) text.now }
 {
     let (first, second) = parts_of(text);
@@ -167,7 +167,7 @@ fn begins_name(text: &str) -> bool
 // The address that a text spells in octal, or that its name has among these symbols, with the distance after `+`. Error: `BadOctal`, for a name
 // that no symbol has, or a number or a distance that isn't an octal word; `OddAddress` or `BadAddress`, for an address that is odd or past
 // octal 157776.
-fn place_of(symbols: Option<&[Symbol]>, text: &str) -> Result<u16, UsageFault>
+fn place_of(symbols: Option<&Symbols>, text: &str) -> Result<u16, UsageFault>
     ensures { result ≡ spec.place_of (option_map (λ known. known.now) symbols.entry) text.now }
 {
     if begins_name(text) {
@@ -188,14 +188,14 @@ fn distance_by(digits: Option<&str>) -> Result<u16, OctalFault>
 }
 
 // The address of the name in a text, with the distance after `+`.
-fn named_at(symbols: Option<&[Symbol]>, text: &str) -> Result<u16, UsageFault>
+fn named_at(symbols: Option<&Symbols>, text: &str) -> Result<u16, UsageFault>
     ensures { result ≡ spec.named_at (option_map (λ known. known.now) symbols.entry) (before_first spec.is_plus text.now)
         (spec.distance_by (spec.part_after spec.is_plus text.now)) }
 {
     let (name, digits) = name_and_distance(text);
     let distance = distance_by(digits)?;
     match symbols {
-        Some(known) => far_from(value_named(known, name.as_bytes()), distance),
+        Some(known) => far_from(value_named(known.as_slice(), name.as_bytes()), distance),
         None => Ok(0),
     }
 }
