@@ -31,7 +31,7 @@ pub(crate) fn show_named<'a, F: Opens, O: Sink>(
     ensures files { F.files files.new ≡ F.files files.old }
 {
     match read_names(alloc, files, Kept::Names, bottom, names) {
-        Ok(known) => show_all(alloc, files, look, known.symbols.as_slice(), paths, out),
+        Ok(known) => show_all(alloc, files, look, &known.symbols, paths, out),
         Err(none) => Err(stop_of(none)),
     }
 }

@@ -10,7 +10,7 @@ use crate::lines::head_line;
 use crate::paths::{Form, Look};
 use crate::stop::Stop;
 use m11_base::{Feed, Seed, Sink};
-use m11_base_disassembly::Symbol;
+use m11_base_disassembly::Symbols;
 use m11_base_files::{OpenRefusal, Opens};
 use m11_base_writes::put_or_fail;
 use m11_dump::{Kind, LocatedFault, View, dump_library, dump_object, dump_tape, kind_of};
@@ -24,7 +24,7 @@ pub(crate) fn show_all<'a, F: Opens, O: Sink>(
     alloc: Global,
     files: &mut F,
     look: Look,
-    symbols: &[Symbol],
+    symbols: &Symbols,
     paths: &[&'a str],
     out: &mut O,
 ) -> Result<(), Stop<'a>>
@@ -48,7 +48,7 @@ fn show_file<'a, F: Opens, O: Sink>(
     alloc: Global,
     files: &mut F,
     look: Look,
-    symbols: &[Symbol],
+    symbols: &Symbols,
     path: &'a str,
     out: &mut O,
 ) -> Result<(), Stop<'a>>
@@ -95,7 +95,7 @@ fn show_input<'a, I: Feed, O: Sink>(
     input: &mut I,
     kind: Kind,
     form: Form,
-    symbols: &[Symbol],
+    symbols: &Symbols,
     path: &'a str,
     out: &mut O,
 ) -> Result<(), Stop<'a>>
@@ -114,7 +114,7 @@ fn show_source<'a, I: Feed, O: Sink>(
     alloc: Global,
     input: &mut I,
     kind: Kind,
-    symbols: &[Symbol],
+    symbols: &Symbols,
     path: &'a str,
     out: &mut O,
 ) -> Result<(), Stop<'a>>
@@ -140,7 +140,7 @@ fn show_dump<'a, I: Feed, O: Sink>(
     input: &mut I,
     kind: Kind,
     view: View,
-    symbols: &[Symbol],
+    symbols: &Symbols,
     path: &'a str,
     out: &mut O,
 ) -> Result<(), Stop<'a>>
@@ -162,7 +162,7 @@ fn dump<I: Feed, O: Sink>(
     input: &mut I,
     kind: Kind,
     view: View,
-    symbols: &[Symbol],
+    symbols: &Symbols,
     out: &mut O,
 ) -> Result<(), LocatedFault>
     ensures { (room : ℕ) × DumpsKind view symbols.now kind (position (I.text input.old) (I.faults input.old) most_bytes)

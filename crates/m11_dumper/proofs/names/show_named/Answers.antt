@@ -7,5 +7,5 @@ use Rattle.m11_dumper.proofs.names.show_named.Goals as goal
 pub returns-in-Ok-clause-shows : goal.returns-in-Ok-clause-shows
 returns-in-Ok-clause-shows g c =
     shown_with g.F.Input.Feed.text g.F.Input.Feed.faults c.args.look c.args.bottom (texts c.args.names.now) (g.F.Opens.files c.args.files.now)
-    (g.F.Opens.files c.read_names.new.files) (texts c.args.paths.now) c.in-Ok.known.symbols.items (map listing_of c.in-Ok.known.listings.items) _ _
-    c.show_all.result c.in-Ok.ensures.names c.in-Ok.ensures.files (rw c.as_slice.ensures.value at c.show_all.ensures.shows)
+    (g.F.Opens.files c.read_names.new.files) (texts c.args.paths.now) c.in-Ok.known.symbols (map listing_of c.in-Ok.known.listings.items) _ _
+    c.show_all.result c.in-Ok.ensures.names c.in-Ok.ensures.files c.show_all.ensures.shows
