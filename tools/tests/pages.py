@@ -1,5 +1,5 @@
 """Checks of all pages: each link leads to a file that is there, and to a heading of that page; each path in the text is there; and the counts that pages
-tell are those of the files. CHECKS lists them for tools/test.py."""
+tell are those of the files; and lines of README and docs/ are short. CHECKS lists them for tools/test.py."""
 import glob
 import os
 import re
@@ -115,11 +115,17 @@ def edits():
     return len(glob.glob(os.path.join(TOP, "crates", "*", "must-fail", "*.edit")))
 
 
+def mistakes():
+    return len(glob.glob(os.path.join(TOP, "mistakes", "*", "*.edit")))
+
+
 # A page, what it says with a number, and what the number is.
 COUNTS = (
     ("docs/TESTED.md", r"([\d,]+) cases, [\d,]+ commands", cases), ("docs/TESTED.md", r"[\d,]+ cases, ([\d,]+) commands", commands),
     ("docs/TESTED.md", r"the ([\d,]+) cases of the suite", cases), ("docs/TESTED.md", r"([\d,]+) tests in Chromium", browser_tests),
-    ("docs/MEASUREMENTS.md", r"The ([\d,]+) of `must-fail/`", edits),
+    ("docs/MEASUREMENTS.md", r"The ([\d,]+) edits of `must-fail/`", edits), ("docs/MEASUREMENTS.md", r"the ([\d,]+) of `mistakes/`", mistakes),
+    ("docs/TESTED.md", r"by `tools/mistakes` \| ([\d,]+) and", edits), ("docs/TESTED.md", r"by `tools/mistakes` \| [\d,]+ and ([\d,]+)", mistakes),
+    ("docs/PROVED.md", r"the ([\d,]+) wrong edits", edits), ("mistakes/README.md", r"The ([\d,]+) of `must-fail/`", edits),
 )
 
 
@@ -132,4 +138,15 @@ def check_counts():
     return wrong
 
 
-CHECKS = [("pages-links", check_links, ()), ("pages-paths", check_paths, ()), ("pages-counts", check_counts, ())]
+def check_widths():
+    """The lines of README and docs/ that are longer than 120 columns, outside of tables and blocks."""
+    wrong = []
+    for path in pages():
+        name = os.path.relpath(path, TOP)
+        if name == "README.md" or name.startswith("docs" + os.sep):
+            lines = without_blocks(get(path)).split("\n")
+            wrong += [f"{name}:{number}: {len(line)} columns" for number, line in enumerate(lines, 1) if len(line) > 120 and not line.startswith("|")]
+    return wrong
+
+
+CHECKS = [("pages-links", check_links, ()), ("pages-paths", check_paths, ()), ("pages-counts", check_counts, ()), ("pages-widths", check_widths, ())]
