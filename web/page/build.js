@@ -163,6 +163,26 @@ function link(engine, plan, built, options) {
     return;
   }
   built.messages.push({ text: `${built.tapeName} is linked.`, isCount: true });
+  if (!options.start) built.messages.push(...unusedStarts(engine, plan, objects));
+}
+
+// The first start that a module gives counts. Those of others are told, since nothing else shows that such a program doesn't run.
+function unusedStarts(engine, plan, objects) {
+  if (objects.length < 2) return [];
+  const [used, ...unused] = startingModules(engine, plan, objects);
+  const name = module => module.file.name;
+  return unused.map(module => ({ text: `The program starts in ${name(used)}; the start that ${name(module)} gives isn’t used.` }));
+}
+
+// The modules whose objects give a start, by the views of the objects. An odd address is none.
+function startingModules(engine, plan, objects) {
+  let parts = [];
+  try {
+    parts = textOf(engine.dump(['m11-dump', '-o', '--', ...objects.map(object => object.name)], objects).output).split(/^OBJECT /m).slice(1);
+  } catch {
+    // Without memory for the views nothing is told of starts.
+  }
+  return plan.modules.filter((_, number) => /^TRANSFER .*[0246]$/m.test(parts[number] ?? ''));
 }
 
 function bottomOf(options) {

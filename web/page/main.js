@@ -77,11 +77,12 @@ function isNarrow() {
 function fileTabs(page) {
   const { files } = page;
   const draw = () => {
-    byId('tabs').replaceChildren(...files.texts().map(({ name }) => {
+    byId('tabs').replaceChildren(...files.texts().map(({ name, role }) => {
       const isOpen = name === files.open;
       const on = { click: () => files.show(name), dblclick: () => page.rename(name) };
-      const shown = { role: 'tab', 'aria-controls': 'editor', 'aria-selected': String(isOpen), tabindex: isOpen ? '0' : '-1', title: name };
-      return make('button', { type: 'button', ...shown, on }, name);
+      const shown = { role: 'tab', 'aria-controls': 'editor', 'aria-selected': String(isOpen), tabindex: isOpen ? '0' : '-1' };
+      const title = role === 'apart' ? `${name} is not built: see Files` : name;
+      return make('button', { type: 'button', ...shown, class: role === 'apart' ? 'apart' : '', title, on }, name);
     }));
     byId('tabs').querySelector('[aria-selected=true]')?.scrollIntoView({ block: 'nearest', inline: 'nearest' });
   };

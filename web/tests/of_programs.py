@@ -145,6 +145,32 @@ def each_example_builds(given):
 
 
 @test
+def the_start_that_counts_is_told(given):
+    page = given.open()
+    page.press("#new")
+    page.key("a", CONTROL)
+    page.type("HELLO.MAC\n")
+    page.wait("document.querySelector('#tabs [aria-selected=true]').textContent === 'HELLO.MAC'")
+    told = "The program starts in GUESS.MAC; the start that HELLO.MAC gives isn’t used."
+    built(page)
+    check(told in page.text("#messages-list"), page.text("#messages-list"))
+    page.press("#files")
+    page.see("document.querySelector('[aria-label=\"What GUESS.MAC is for\"]').focus()")
+    page.type("n")
+    page.press("#files-dialog [data-close]")
+    same(page.see("[...document.querySelectorAll('#tabs .apart')].map(tab => tab.title)"), ["GUESS.MAC is not built: see Files"])
+    built(page)
+    check(told not in page.text("#messages-list"), page.text("#messages-list"))
+    # A program of its own, after a question, since HELLO.MAC is nobody else's.
+    example(page, "A new program")
+    page.press("#confirm-yes")
+    page.wait("document.querySelector('#tabs').textContent === 'HELLO.MAC'")
+    page.key("F8")
+    page.wait(f"{STATE}.startsWith('HALT')")
+    shows(page, lambda text: text.startswith("Hello!\n"))
+
+
+@test
 def options_are_those_of_the_commands(given):
     page = given.open()
     page.press("#options")
