@@ -273,7 +273,19 @@ export class Debugger {
     const classes = ['word', isChanged ? 'changed' : '', address === stack ? 'stack' : ''].join(' ');
     return make('button', { type: 'button', role: 'gridcell', class: classes, tabindex: number === this.active ? '0' : '-1', 'data-number': String(number),
       title: `${octal(address)}${label ? ' ' + label : ''}: back to before its last change`,
-      on: { click: () => { this.active = number; this.back(wordAt(address)); } } }, octal(value));
+      on: { click: () => this.backAt(address, number) } }, octal(value));
+  }
+
+  // Goes back to before the last change of a word, and keeps the focus on its address, also if the memory that is shown has moved.
+  async backAt(address, number) {
+    this.active = number;
+    await this.back(wordAt(address));
+    if (document.activeElement && document.activeElement !== document.body) return;
+    const first = this.firstWord;
+    if (address < first || address >= first + 2 * ROWS * WORDS) this.shift += address - first;
+    this.active = (address - this.firstWord) >> 1;
+    this.drawMemory();
+    byId('memory-words').querySelector(`[data-number="${this.active}"]`)?.focus();
   }
 
   // Arrows go from word to word.

@@ -68,8 +68,18 @@ export class FilesDialog {
 
   draw() {
     const { list } = this.files;
+    const focused = byId('files-list').contains(document.activeElement) ? document.activeElement.getAttribute('aria-label') : null;
     byId('files-list').replaceChildren(...list.map((file, number) => this.row(file, number)));
     if (!list.length) byId('files-list').append(make('li', { class: 'dim' }, 'There are no files.'));
+    if (focused) this.focusAgain(focused);
+  }
+
+  // The list was drawn anew: what had the focus has it again, or the other arrow of a file that has come to an end of the list.
+  focusAgain(label) {
+    const other = label.replace(/^Move (up|down)/, (_, way) => `Move ${way === 'up' ? 'down' : 'up'}`);
+    const parts = [...byId('files-list').querySelectorAll('[aria-label]')].filter(part => !part.disabled);
+    const found = [label, other].map(wanted => parts.find(part => part.getAttribute('aria-label') === wanted)).find(part => part);
+    (found ?? byId('files-title')).focus();
   }
 
   row(file, number) {

@@ -117,16 +117,17 @@ export class Machine {
   }
 
   /**
-   * Runs until the program stops, the limit is reached, or `breaks` have an address to which it has come. `isThere` may refuse such a
-   * place. `progress` is told after each slice. Returns why the run ended.
+   * Runs until the program stops, the limit is reached, or `breaksNow` has an address to which it has come: it is asked again for each
+   * slice, since breakpoints may be set while a program waits for a key. `isThere` may refuse such a place. `progress` is told after each slice. Returns why the run ended.
    */
-  async run(breaks, { isThere = () => true, progress = () => {} } = {}) {
+  async run(breaksNow, { isThere = () => true, progress = () => {} } = {}) {
     const task = this.begin();
     let why = '';
     if (this.ceiling <= this.steps && !this.atEnd) this.ceiling = this.steps + this.options.steps;
     let isFirst = true;
     while (!why && task === this.task) {
       const left = this.ceiling - this.steps;
+      const breaks = breaksNow();
       const begun = performance.now();
       if (left <= 0) why = 'LIMIT';
       else if (isFirst || !breaks.size) why = this.advance(isFirst ? 1 : Math.min(this.slice, left));
@@ -248,7 +249,8 @@ export class Machine {
     const back = (this.pc + length) & 0xffff;
     const stack = register(this.state, SP);
     const isThere = () => breaks.has(this.pc) || (this.pc === back && register(this.state, SP) >= stack);
-    const why = await this.run(new Set([...breaks, back]), { ...callbacks, isThere });
+    const places = new Set([...breaks, back]);
+    const why = await this.run(() => places, { ...callbacks, isThere });
     return why === 'break' && this.pc === back && !breaks.has(back) ? '' : why;
   }
 

@@ -64,9 +64,18 @@ function areas(page) {
   page.runBegun = () => {
     if (document.body.dataset.area !== 'machine') setArea('console');
     page.outputs.show('run');
-    if (!document.activeElement?.closest?.('#machine, #line') && !isNarrow()) byId('screen').focus({ preventScroll: true });
+    if (!document.activeElement?.closest?.('#machine, #line')) toConsole();
+    page.begun.focus = document.activeElement;
+  };
+  page.runWaits = () => {
+    if (!document.activeElement?.closest?.('#line')) toConsole();
   };
   showAreas();
+}
+
+// The keys go to the program. On a narrow screen a line is typed instead, and the keyboard stays away until it is wanted.
+function toConsole() {
+  if (!isNarrow()) byId('screen').focus({ preventScroll: true });
 }
 
 function isNarrow() {

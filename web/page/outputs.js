@@ -114,7 +114,11 @@ export class Outputs {
     const first = Math.max(1, machine.steps - LAST_STEPS + 1);
     try {
       const lines = traceLines(machine, first, machine.steps, symbols.map(file => file.name), symbols);
-      return { text: lines.map(inColumns).join('\n'), note: `Steps ${first} to ${machine.steps}: number, address, instruction, what it changed` };
+      // The trace ends at a stop, also if steps were made past it.
+      if (!lines.length) return { text: '', note: `The trace ends at a stop before step ${first}.` };
+      const last = numberOf(lines.at(-1));
+      const more = last < machine.steps ? `. The trace ends at the stop; the steps to ${machine.steps} were made past it` : '';
+      return { text: lines.map(inColumns).join('\n'), note: `Steps ${numberOf(lines[0])} to ${last}: number, address, instruction, what it changed${more}` };
     } catch (error) {
       return { text: '', note: error.message };
     }
@@ -124,6 +128,11 @@ export class Outputs {
     if (this.panel === 'trace' || this.panel === 'dump') download(`${this.name}.TXT`, new TextEncoder().encode(byId('shown').textContent));
     else download(this.name, this.bytesOf(this.name));
   }
+}
+
+// The number of the step that a line of a trace shows.
+function numberOf(line) {
+  return Number(line.split('\t')[0]);
 }
 
 // The fields of a line of a trace below each other.

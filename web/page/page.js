@@ -26,6 +26,8 @@ export class Page {
     this.isStale = true;
     this.machine = null;
     this.drawnAt = 0;
+    // What the console says of a stop at a breakpoint: on a phone the machine's own words aren't seen then.
+    this.reached = '';
     this.marks = new Marks(() => this.marked());
     this.marks.toggle = (file, line) => this.toggleLine(file, line);
     this.editor = new Editor(this.files, this.marks);
@@ -169,14 +171,20 @@ export class Page {
     return this.machine !== null && this.machine.steps > 0 && !this.machine.atEnd && !this.isStale;
   }
 
+  // Whether a run waits for a key and files were changed since: then a program of the files as they are is wanted.
+  isOutdated() {
+    return this.isStale && (this.machine?.isAsking ?? false);
+  }
+
   async run() {
-    if (this.machine?.isRunning) return;
+    if (this.machine?.isRunning && !this.isOutdated()) return;
+    this.machine?.halt();
     if (!this.isPaused()) {
       if (this.isStale || !this.machine) this.build();
       else if (this.machine.steps > 0) this.load();
     }
     if (!this.machine || this.machine.stop === 'NO START') return;
-    await this.doing(machine => machine.run(this.breaks(), { progress: () => this.progress() }), true);
+    await this.doing(machine => machine.run(() => this.breaks(), { progress: () => this.progress() }), true);
   }
 
   async step() {
@@ -221,7 +229,7 @@ export class Page {
     const { machine } = this;
     if (machine.isRunning) return;
     this.marks.next = null;
-    this.begun = { time: performance.now(), steps: machine.steps };
+    this.begun = { time: performance.now(), steps: machine.steps, focus: isRun ? document.activeElement : null };
     const promise = task(machine);
     this.drawControls();
     if (isRun) this.runBegun?.();
@@ -262,8 +270,16 @@ export class Page {
     // While a program runs, a screen reader isn't told each number of steps.
     byId('machine-state').setAttribute('aria-live', this.machine.isAsking ? 'polite' : 'off');
     byId('machine-state').textContent = this.machine.isAsking ? this.asking() : this.running(now);
-    if (this.machine.isAsking) this.placed(false);
+    if (this.machine.isAsking) this.waits();
     this.drawControls();
+  }
+
+  // A run waits for a key: the console gets the focus, unless it went elsewhere since the run began.
+  waits() {
+    this.placed(false);
+    const { focus } = this.begun;
+    if (focus && [focus, document.body].includes(document.activeElement)) this.runWaits?.();
+    this.begun.focus = null;
   }
 
   asking() {
@@ -281,6 +297,7 @@ export class Page {
     this.debugger.draw();
     this.outputs.draw();
     const report = this.report(why);
+    this.reached = why === 'break' ? report : '';
     byId('machine-state').setAttribute('aria-live', 'polite');
     byId('machine-state').textContent = report || 'Loaded: no step was made yet.';
     this.console.report(machine.stop ? `${machine.report()}\n${registersLine(machine)}` : '');
@@ -291,9 +308,10 @@ export class Page {
   report(why) {
     const { machine } = this;
     if (machine.stop) return machine.report();
-    if (why === 'break') return `REACHED AFTER ${machine.steps} STEPS`;
-    if (why === 'stopped') return `STOPPED AFTER ${machine.steps} STEPS`;
-    return machine.steps ? `AFTER ${machine.steps} STEPS` : '';
+    const steps = `${machine.steps} ${machine.steps === 1 ? 'step' : 'steps'}`;
+    if (why === 'break') return `Stopped at breakpoint ${octal(machine.pc)} after ${steps}`;
+    if (why === 'stopped') return `STOPPED AFTER ${steps.toUpperCase()}`;
+    return machine.steps ? `AFTER ${steps.toUpperCase()}` : '';
   }
 
   // Marks the line that runs next, and shows it if the machine has stopped at it.
@@ -314,7 +332,7 @@ export class Page {
     const isRunning = machine?.isRunning ?? false;
     byId('build').disabled = false;
     byId('restart').disabled = !machine;
-    byId('run').disabled = isRunning;
+    byId('run').disabled = isRunning && !this.isOutdated();
     byId('run-word').textContent = this.isPaused() ? 'Go on' : 'Run';
     byId('stale').hidden = !this.built || !this.isStale;
     byId('stop').disabled = !isRunning;
@@ -322,7 +340,7 @@ export class Page {
     byId('step').disabled = isRunning;
     byId('over').disabled = isRunning;
     byId('end-input').disabled = !machine || machine.isOver;
-    const words = !machine ? '' : machine.isOver ? 'the input has ended' : machine.isAsking ? 'waits for a key' : isRunning ? 'runs' : machine.stop;
+    const words = !machine ? '' : machine.isOver ? 'the input has ended' : machine.isAsking ? 'waits for a key' : isRunning ? 'runs' : machine.stop || this.reached;
     byId('console-state').textContent = words;
   }
 

@@ -51,6 +51,8 @@ async function traced(machine, thing, progress) {
   for (let turn = 0; end > 0; turn += 1) {
     const first = Math.max(1, end - WINDOWS[Math.min(turn, WINDOWS.length - 1)] + 1);
     const lines = traceLines(machine, first, end);
+    // The trace ends at a stop, but steps may have been made past it: those are looked at one by one.
+    if (turn === 0 && end > lastOf(lines)) return stepped(machine, thing, progress);
     for (let at = lines.length - 1; at >= 0; at -= 1) {
       if (thing.field.test(lines[at])) return { step: Number(lines[at].split('\t')[0]), isSure: true };
     }
@@ -59,6 +61,10 @@ async function traced(machine, thing, progress) {
     await new Promise(resolve => setTimeout(resolve, 0));
   }
   return null;
+}
+
+function lastOf(lines) {
+  return lines.length ? Number(lines.at(-1).split('\t')[0]) : 0;
 }
 
 /** The lines of m11-trace for some steps of a run. */

@@ -6,7 +6,7 @@ import sys
 import time
 
 from browser import CONTROL, SHIFT
-from given import LOOP, SCREEN, STATE, TOP, Skipped, alone, arrived, built, check, example, same, shows, test, value
+from given import LOOP, SCREEN, STATE, TOP, Skipped, alone, arrived, built, check, example, same, shows, source, test, value
 
 
 @test
@@ -61,7 +61,7 @@ def each_step_is_that_of_the_simulator(given):
         page.press("#step-number")
         page.key("a", CONTROL)
         page.type(f"{steps}\n")
-        page.wait(f"{STATE}.endsWith('AFTER {steps} STEPS')")
+        page.wait(f"{STATE}.endsWith('AFTER {steps} {'STEP' if steps == 1 else 'STEPS'}')")
         done = subprocess.run([m11, "sim", f"-n{steps}", tape], input=b"Ada\n50\n23\n", capture_output=True, check=False)
         registers = " ".join(f"{name} {page.text('#register-' + name)}" for name in "R0 R1 R2 R3 R4 R5 SP PC PSW".split())
         same(registers, done.stderr.decode().split("\n")[1])
@@ -100,7 +100,7 @@ def steps_there_and_back(given):
     page = given.open()
     built(page)
     page.key("F7")
-    page.wait(f"{STATE} === 'AFTER 1 STEPS'")
+    page.wait(f"{STATE} === 'AFTER 1 STEP'")
     same(page.text("#register-SP"), "001676")
     page.press("#step")
     page.wait(f"{STATE} === 'AFTER 2 STEPS'")
@@ -142,17 +142,17 @@ def stops_at_breakpoints(given):
     same(page.text("#code-place"), "CONSOL.MAC, line 15")
     page.press("#screen")
     page.type("Ada\n50\n23\n")
-    page.wait(f"{STATE} === 'REACHED AFTER 619 STEPS'")
+    page.wait(f"{STATE} === 'Stopped at breakpoint 001222 after 619 steps'")
     same(page.text("#register-PC"), "001222")
     same(page.text("#code-lines .next .dot"), "●")
     page.key("F8")
-    page.wait(f"{STATE} === 'REACHED AFTER 875 STEPS'")
+    page.wait(f"{STATE} === 'Stopped at breakpoint 001222 after 875 steps'")
     # The same place by the machine's list, and another one.
     page.press("#code-lines .next .dot")
     page.wait("document.querySelectorAll('.number.break').length === 0")
     page.press("#code-lines li.next + li .dot")
     page.key("F8")
-    page.wait(f"{STATE} === 'REACHED AFTER 876 STEPS'")
+    page.wait(f"/^Stopped at breakpoint 0012\\d\\d after 876 steps$/.test({STATE})")
     page.press("#code-lines .next .dot")
     page.key("F8")
     page.wait(f"{STATE} === 'HALT AFTER 1075 STEPS'")
@@ -165,7 +165,7 @@ def breakpoints_leave_the_program_as_it_is(given):
     alone(page, "\t.TITLE\tP\nSTART:\tNOP\n\tTST\tHERE\n\tBEQ\tBAD\n\tMOV\tHERE,R0\nHERE:\tINC\tR1\n\tMOV\tHERE,R2\n\tHALT\nBAD:\tBR\tBAD\n\t.END\tSTART\n")
     page.press("[data-line='6']")
     page.key("F8")
-    page.wait(f"{STATE} === 'REACHED AFTER 4 STEPS'")
+    page.wait(f"/^Stopped at breakpoint 0010\\d\\d after 4 steps$/.test({STATE})")
     same(page.text("#register-R0"), "005201")
     page.key("F8")
     page.wait(f"{STATE} === 'HALT AFTER 7 STEPS'")
@@ -235,3 +235,61 @@ def long_outputs_do_not_freeze_the_page(given):
     check(time.monotonic() - begun < 3, "the page answers while a program prints")
     page.wait(f"{STATE} === 'LIMIT AFTER 1000000 STEPS'", 60)
     check(page.see(f"{SCREEN}.length") < 200000, "the screen has an end")
+
+
+@test
+def steps_past_a_halt_are_told_apart(given):
+    """The trace ends at the HALT; a last change is found past it too."""
+    page = given.open()
+    alone(page, "\t.TITLE\tP\nSTART:\tINC\tR0\n\tHALT\n\tMOV\t#7,R1\n\tNOP\n\t.END\tSTART\n")
+    page.key("F8")
+    page.wait(f"{STATE} === 'HALT AFTER 2 STEPS'")
+    page.key("F7")
+    page.key("F7")
+    page.wait(f"{STATE} === 'AFTER 4 STEPS'")
+    page.press("#tab-trace")
+    same(page.text("#shown").count("\n"), 1)
+    check(page.text("#panel-note").startswith("Steps 1 to 2:") and "to 4 were made past it" in page.text("#panel-note"), page.text("#panel-note"))
+    page.press("#tab-run")
+    page.press_text("#registers button", "R1")
+    page.wait(f"{STATE} === 'Step 3 changes R1 from 000000 to 000007.'")
+
+
+@test
+def the_focus_stays_where_it_is_wanted(given):
+    page = given.open()
+    built(page)
+    focus = "document.activeElement.id"
+    # A run that was begun from the machine's buttons: keys go to the program when it waits.
+    page.press("#step")
+    page.wait(f"{STATE} === 'AFTER 1 STEP'")
+    page.press("#restart")
+    page.key("F8")
+    page.wait(f"{STATE}.startsWith('WAITS') && {focus} === 'screen'")
+    page.type("Ada\n50\n23\n")
+    page.wait(f"{STATE} === 'HALT AFTER 1075 STEPS'")
+    # A word of the stack, which moves in what is shown of memory.
+    page.see("document.querySelector('#memory-words .stack').parentElement.querySelectorAll('.word')[2].focus()")
+    address = page.see("document.activeElement.title.slice(0, 6)")
+    page.key("Enter")
+    page.wait(f"{STATE}.includes(' changes {address} from ')")
+    page.wait(f"document.activeElement.title.startsWith('{address}')")
+    # A role in the list of files.
+    page.press("#files")
+    page.see("document.querySelector('[aria-label=\"What CONSOL.MAC is for\"]').focus()")
+    page.type("n")
+    same(page.see("document.activeElement.getAttribute('aria-label')"), "What CONSOL.MAC is for")
+    page.press("[aria-label='Move up CONSOL.MAC']")
+    same(page.see("document.activeElement.getAttribute('aria-label')"), "Move down CONSOL.MAC")
+
+
+@test
+def a_run_that_waits_gives_way_to_new_files(given):
+    page = given.open()
+    page.key("F8")
+    page.wait(f"{STATE}.startsWith('WAITS')")
+    source(page, value(page).replace("Who are you?", "Your name?"))
+    page.wait("!document.querySelector('#run').disabled")
+    page.key("F8")
+    page.wait(f"{STATE}.startsWith('WAITS') && document.querySelector('#stale').hidden")
+    shows(page, lambda text: text.strip() == "Your name?")

@@ -80,6 +80,13 @@ def a_phone_shows_one_part_at_a_time(given):
     page.wait(f"{SCREEN}.includes('Your guess?')")
     page.press("#areas [data-area=machine]")
     check(page.see("document.documentElement.scrollWidth") <= 375, "the machine isn't too wide")
+    # A breakpoint that is set while the program waits: the console says where it has stopped.
+    page.press("#code-lines li.next ~ li .dot:not(:disabled)")
+    page.press("#areas [data-area=console]")
+    page.press("#line-text")
+    page.type("50\n")
+    page.wait("/^Stopped at breakpoint [0-7]{6} after [0-9]+ steps$/.test(document.querySelector('#console-state').textContent)")
+    page.press("#areas [data-area=machine]")
     for button in ("examples", "files", "options", "about"):
         page.press(f"#{button}")
         check(page.see("document.documentElement.scrollWidth") <= 375, f"{button} isn't too wide")
