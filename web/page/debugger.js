@@ -1,7 +1,7 @@
 // The machine to look at: registers, codes, instructions and memory, and the steps there and back.
 
 import { bytesAt, memoryOf, register, word } from './engine.js';
-import { button, byId, make } from './elements.js';
+import { button, byId, HAS_KEYS, make } from './elements.js';
 import { isCode } from './listing.js';
 import { backToChange, isSearchWhole, registerOf, STATUS, wordAt } from './search.js';
 import { fromOctal, octal, textOf } from './text.js';
@@ -19,8 +19,11 @@ export class Debugger {
     this.page = page;
     this.machine = null;
     this.built = null;
+    // The state that was drawn last, and the one before it, with which it is compared.
+    this.drawn = null;
     this.before = null;
-    this.memoryAt = 'SP';
+    // What the memory's field means; null if nothing was given, which is the stack, or before a run the program's start.
+    this.memoryAt = null;
     this.shift = 0;
     this.active = 0;
     byId('registers').replaceChildren(...this.registerParts());
@@ -30,12 +33,14 @@ export class Debugger {
     byId('memory-more').addEventListener('click', () => this.shifted(ROWS * WORDS));
     byId('memory-words').addEventListener('keydown', event => this.moved(event));
     byId('code-lines').addEventListener('click', event => this.clicked(event));
+    byId('code-lines').addEventListener('keydown', event => this.movedInCode(event));
   }
 
   attach(machine, built) {
     this.machine = machine;
     this.built = built;
     this.before = null;
+    this.drawn = null;
     this.symbols = this.symbolFiles();
     this.rows = this.knownRows();
   }
@@ -88,12 +93,15 @@ export class Debugger {
   /** Draws all, with what has changed since it was drawn last. */
   draw({ isRunning = false } = {}) {
     if (!this.machine) return;
+    // A state that is drawn once more keeps what has changed to it.
+    const isAnew = this.machine.state !== this.drawn;
+    if (isAnew) this.before = this.drawn;
     this.drawRegisters();
     this.drawSteps();
     if (!isRunning) {
       this.drawCode();
       this.drawMemory();
-      this.before = this.machine.state;
+      this.drawn = this.machine.state;
     }
   }
 
@@ -117,11 +125,14 @@ export class Debugger {
     const field = byId('step-number');
     if (document.activeElement !== field) field.value = String(this.machine.steps);
     byId('step-most').textContent = `of ${this.machine.furthest}`;
+    const { stop, place } = this.machine;
+    const goesOn = HAS_KEYS ? 'F8 goes on' : 'Go on continues';
+    byId('machine-place').textContent = stop === 'HALT' ? `HALT at ${octal(place)}` : stop === 'LIMIT' ? goesOn : '';
   }
 
-  // The lines around the next instruction, each with its address, its words, its instruction, and where its source is.
+  // The lines around the next instruction, or around the HALT that was reached, each with its address, its words, its instruction, and where its source is.
   drawCode() {
-    const { pc } = this.machine;
+    const pc = this.machine.place;
     const rows = this.rowsAround(pc);
     const shown = this.disassembled(rows);
     const places = this.built.places;
@@ -140,10 +151,10 @@ export class Debugger {
       'aria-label': `Breakpoint at ${octal(row.address)}`, 'data-address': String(row.address) }, isBreak ? '●' : '○');
     const label = places.label(row.address);
     const source = row.file ? `${row.file}:${row.line}` : '';
-    const place = source ? button(source, () => this.page.showLine(row.file, row.line), { class: 'place', tabindex: '-1' }) : '';
+    const place = source ? button(source, () => this.page.showLine(row.file, row.line), { class: 'place', title: source, tabindex: '-1' }) : '';
     return make('li', { class: isNext ? 'next' : '', ...(isNext ? { 'aria-current': 'true' } : {}) }, dot,
       make('span', { class: 'address' }, octal(row.address)), make('span', { class: 'label' }, label.includes('+') ? '' : label),
-      make('span', { class: 'words' }, shown.words), make('span', { class: 'instruction' }, shown.text), place);
+      make('span', { class: 'words' }, shown.words), make('span', { class: 'instruction', title: shown.text }, shown.text), place);
   }
 
   rowsAround(pc) {
@@ -207,6 +218,17 @@ export class Debugger {
     byId('code-lines').querySelector(`[data-address="${address}"]`)?.focus();
   }
 
+  // Arrows, Home and End go from breakpoint to breakpoint of the list.
+  movedInCode(event) {
+    const dots = [...byId('code-lines').querySelectorAll('.dot:not(:disabled)')];
+    const at = dots.indexOf(document.activeElement);
+    const to = { ArrowDown: at + 1, ArrowUp: at - 1, Home: 0, End: dots.length - 1 }[event.key];
+    if (at < 0 || !dots[to]) return;
+    event.preventDefault();
+    dots.forEach((dot, number) => { dot.tabIndex = number === to ? 0 : -1; });
+    dots[to].focus();
+  }
+
   // --- memory ---
 
   /** The address that a text of the memory's field means, or null. */
@@ -229,13 +251,13 @@ export class Debugger {
   }
 
   lookAt(text) {
-    const address = this.addressOf(text);
+    const address = text.trim() ? this.addressOf(text) : 0;
     byId('memory-at').setAttribute('aria-invalid', String(address === null));
     if (address === null) {
       this.page.notify(`“${text}” is neither an octal address nor a name of this program.`);
       return;
     }
-    this.memoryAt = text;
+    this.memoryAt = text.trim() || null;
     this.shift = 0;
     this.drawMemory();
   }
@@ -245,9 +267,13 @@ export class Debugger {
     this.drawMemory();
   }
 
-  // Memory is shown from a little above the stack's top, or from the address on.
+  get memoryText() {
+    return this.memoryAt ?? (register(this.machine.state, 6) ? 'SP' : 'PC');
+  }
+
+  // Memory is shown from the address on, in rows that begin at multiples of 8.
   get firstWord() {
-    const address = (this.addressOf(this.memoryAt) ?? 0) + this.shift;
+    const address = (this.addressOf(this.memoryText) ?? 0) + this.shift;
     return Math.min(Math.max(0, address & ~7), memoryOf(this.machine.state) - 2 * ROWS * WORDS);
   }
 
@@ -255,24 +281,27 @@ export class Debugger {
     if (!this.machine) return;
     const { state } = this.machine;
     const first = this.firstWord;
-    const stack = register(state, 6);
+    const marked = { stack: register(state, 6), asked: this.addressOf(this.memoryText) };
+    if (document.activeElement !== byId('memory-at')) byId('memory-at').value = this.memoryText;
     const rows = [];
     for (let row = 0; row < ROWS; row += 1) {
       const address = first + 2 * WORDS * row;
-      const cells = Array.from({ length: WORDS }, (_, column) => this.memoryWord(state, address + 2 * column, row * WORDS + column, stack));
+      const cells = Array.from({ length: WORDS }, (_, column) => this.memoryWord(state, address + 2 * column, row * WORDS + column, marked));
       rows.push(make('div', { role: 'row' }, make('span', { class: 'address', role: 'rowheader' }, octal(address)), ...cells,
         make('span', { class: 'characters', 'aria-hidden': 'true' }, characters(bytesAt(state, address, 2 * WORDS)))));
     }
     byId('memory-words').replaceChildren(...rows);
   }
 
-  memoryWord(state, address, number, stack) {
+  memoryWord(state, address, number, { stack, asked }) {
     const value = word(state, address);
     const isChanged = this.before !== null && word(this.before, address) !== value;
     const label = this.built.places.label(address);
-    const classes = ['word', isChanged ? 'changed' : '', address === stack ? 'stack' : ''].join(' ');
+    const isAsked = address === asked;
+    const classes = ['word', isChanged ? 'changed' : '', address === stack ? 'stack' : '', isAsked ? 'asked' : ''].join(' ');
+    const place = `${octal(address)}${label ? ' ' + label : ''}${address === stack ? ', the top of the stack' : ''}`;
     return make('button', { type: 'button', role: 'gridcell', class: classes, tabindex: number === this.active ? '0' : '-1', 'data-number': String(number),
-      title: `${octal(address)}${label ? ' ' + label : ''}: back to before its last change`,
+      'aria-current': isAsked ? 'true' : null, title: `${place}: back to before its last change`,
       on: { click: () => this.backAt(address, number) } }, octal(value));
   }
 

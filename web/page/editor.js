@@ -22,6 +22,10 @@ export class Editor {
     this.frame = 0;
     this.found = null;
     this.gutter.addEventListener('click', event => this.clicked(event));
+    // Whether Tab was the last thing that was done: then a focus has come by the keyboard.
+    this.isTabbed = false;
+    addEventListener('keydown', event => { this.isTabbed = event.key === 'Tab'; }, true);
+    addEventListener('pointerdown', () => { this.isTabbed = false; }, true);
     new ResizeObserver(() => this.redraw()).observe(this.host);
   }
 
@@ -59,6 +63,8 @@ export class Editor {
     area.addEventListener('input', () => this.edited());
     area.addEventListener('scroll', () => this.redraw());
     area.addEventListener('keydown', event => this.pressed(event));
+    area.addEventListener('focus', () => this.entered());
+    area.addEventListener('blur', () => this.hint(false));
     for (const kind of ['keyup', 'click', 'select', 'focus']) area.addEventListener(kind, () => this.redraw());
     this.areas.set(source, area);
     this.host.append(area);
@@ -66,7 +72,19 @@ export class Editor {
     return area;
   }
 
+  // Who comes by the keyboard is told how to leave, and sees the caret.
+  entered() {
+    if (!this.isTabbed) return;
+    this.hint(true);
+    this.reveal(this.lineOfCaret());
+  }
+
+  hint(isShown) {
+    byId('editor-hint').hidden = !isShown;
+  }
+
   edited() {
+    this.hint(false);
     this.found = null;
     const lines = this.starts.length;
     this.files.edit(this.name, this.area.value);
@@ -161,7 +179,8 @@ export class Editor {
   numbered(number) {
     const marks = this.marks.of(this.name, number + 1);
     const classes = ['number', marks.isBreak ? 'break' : '', marks.isNext ? 'next' : '', marks.isFlagged ? 'flagged' : ''].join(' ');
-    return make('div', { class: classes, 'data-line': String(number + 1) }, String(number + 1));
+    const title = marks.isBreak ? 'Press to stop here no more' : 'Press to stop here';
+    return make('div', { class: classes, title, 'data-line': String(number + 1) }, String(number + 1));
   }
 
   clicked(event) {

@@ -1,5 +1,8 @@
 // Making and finding elements. Texts of others become text and nothing else: no function here reads markup.
 
+/** Whether the device has keys, as far as a page can tell: one for fingers alone is shown no names of keys. */
+export const HAS_KEYS = !matchMedia('(hover: none) and (pointer: coarse)').matches;
+
 /** The element of the page with this id. */
 export function byId(id) {
   return document.getElementById(id);

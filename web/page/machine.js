@@ -63,6 +63,11 @@ export class Machine {
     return register(this.state, PC);
   }
 
+  /** Where the machine is: at the HALT that has stopped it, or at the next instruction. */
+  get place() {
+    return this.stop === 'HALT' ? (this.pc - 2) & 0xffff : this.pc;
+  }
+
   get atEnd() {
     return this.stop !== '' && this.stop !== 'LIMIT';
   }

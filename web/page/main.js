@@ -2,7 +2,7 @@
 
 import { ExamplesDialog, FilesDialog, LinkDialog, OptionsDialog, closeButtons, optionFault } from './dialogs.js';
 import { Engine } from './engine.js';
-import { byId, button, confirmed, make, tabKeys } from './elements.js';
+import { byId, button, confirmed, HAS_KEYS, make, tabKeys } from './elements.js';
 import { Find } from './find.js';
 import { tamed } from './files.js';
 import { filesOf } from './links.js';
@@ -145,7 +145,7 @@ function keys(page, find) {
   const actions = {
     F9: () => page.build(), 'Control+Enter': () => page.build(), F8: () => page.run(), F7: () => page.step(), 'Shift+F7': () => page.back(),
     F10: () => page.over(), F4: () => page.editor.area && page.toggleLine(page.editor.name, page.editor.lineOfCaret() + 1),
-    F3: () => find.next(1), 'Shift+F3': () => find.next(-1),
+    'Shift+F8': () => page.stop(), F3: () => find.next(1), 'Shift+F3': () => find.next(-1),
   };
   addEventListener('keydown', event => {
     if (document.querySelector('dialog[open]')) return;
@@ -278,6 +278,7 @@ async function begin() {
   const own = () => stored;
   addEventListener('hashchange', () => { stored = storage.isPaused ? stored : record(page); followLink(page, storage, own); });
   await followLink(page, storage, own);
+  if (!HAS_KEYS) byId('messages-list').replaceChildren(make('li', { class: 'note' }, 'Build assembles and links the files.'));
   page.drawControls();
   document.body.dataset.ready = 'yes';
   performance.mark('ready');

@@ -1,7 +1,7 @@
 // What a build has made, as text: listings, maps, dumps of objects and of the tape, and the lines of the last steps.
 
 import { download } from './archive.js';
-import { byId, make, tabKeys } from './elements.js';
+import { byId, HAS_KEYS, make, tabKeys } from './elements.js';
 import { OBJECT } from './files.js';
 import { traceLines } from './search.js';
 import { textOf } from './text.js';
@@ -63,6 +63,8 @@ export class Outputs {
     const chosen = names.includes(this.chosen.get(this.panel)) ? this.chosen.get(this.panel) : this.preferred(names);
     byId('which').replaceChildren(...names.map(name => make('option', { value: name, selected: name === chosen }, name)));
     byId('which').disabled = names.length < 2;
+    byId('which').hidden = !names.length;
+    byId('which-label').hidden = !names.length;
     byId('download-one').disabled = !names.length;
     this.name = chosen;
     const { text, note = '' } = chosen === undefined ? { text: '', note: this.nothing() } : this.content(chosen);
@@ -80,7 +82,9 @@ export class Outputs {
   }
 
   nothing() {
-    return this.panel === 'trace' ? 'Nothing has been run.' : 'There is none yet: F9 assembles and links.';
+    if (this.built && !this.built.isGood) return 'The last build had mistakes: see the messages.';
+    if (this.panel === 'trace') return 'Nothing has been run.';
+    return `There is none yet: ${HAS_KEYS ? 'F9' : 'Build'} assembles and links.`;
   }
 
   content(name) {

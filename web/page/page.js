@@ -314,9 +314,9 @@ export class Page {
     return machine.steps ? `AFTER ${steps.toUpperCase()}` : '';
   }
 
-  // Marks the line that runs next, and shows it if the machine has stopped at it.
+  // Marks the line that runs next, or the HALT that was reached, and shows it if the machine has stopped at it.
   placed(isShown) {
-    const line = this.machine ? this.built.places.lineAt(this.machine.pc) : null;
+    const line = this.machine ? this.built.places.lineAt(this.machine.place) : null;
     this.marks.next = line?.file && !this.isStale ? { file: line.file, line: line.line } : null;
     if (isShown && this.marks.next) this.showLine(line.file, line.line, { select: false, focus: false });
     this.editor.redraw();

@@ -38,6 +38,9 @@ def a_message_leads_to_its_line(given):
     check(page.see("document.activeElement.classList.contains('source')"), "the editor has the focus")
     same(page.see("document.querySelectorAll('#editor-layer .flagged').length > 0"), True)
     check("Nothing is loaded" in page.text("#machine-state"), page.text("#machine-state"))
+    page.press("#tab-tape")
+    same(page.text("#panel-note"), "The last build had mistakes: see the messages.")
+    same(page.see("document.querySelector('#which').hidden"), True)
 
 
 @test

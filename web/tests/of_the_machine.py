@@ -16,6 +16,8 @@ def goes_back_to_a_mistake(given):
     page.key("F8")
     page.wait(f"{STATE} === 'HALT AFTER 19 STEPS'")
     same(page.text("#register-PC"), "000002")
+    # The HALT itself is what is marked.
+    same([page.text("#machine-place"), page.text("#code-lines .next .address")], ["HALT at 000000", "000000"])
     page.press_text("#registers button", "R4")
     page.wait(f"{STATE} === 'Step 17 changes R4 from 001014 to 001016.'")
     page.press_text("#registers button", "R4")
@@ -99,6 +101,12 @@ def goes_back_in_a_long_run(given):
 def steps_there_and_back(given):
     page = given.open()
     built(page)
+    # Before a run memory is shown at the program's start.
+    same([page.see("document.querySelector('#memory-at').value"), page.text("#memory-words .asked")], ["PC", "012706"])
+    page.press("#memory-at")
+    page.key("a", CONTROL)
+    page.type("start+6\n")
+    same(page.see("[...document.querySelectorAll('#memory-words [aria-current]')].map(word => word.title.slice(0, 14))"), ["001006 START+6"])
     page.key("F7")
     page.wait(f"{STATE} === 'AFTER 1 STEP'")
     same(page.text("#register-SP"), "001676")
@@ -147,6 +155,13 @@ def stops_at_breakpoints(given):
     same(page.text("#code-lines .next .dot"), "●")
     page.key("F8")
     page.wait(f"{STATE} === 'Stopped at breakpoint 001222 after 875 steps'")
+    same(page.text("#console-state"), "Stopped at breakpoint 001222 after 875 steps")
+    # Arrows go through the list.
+    page.see("document.querySelector('#code-lines .next .dot').focus()")
+    page.key("ArrowDown")
+    same(page.see("document.activeElement === document.querySelector('#code-lines .next + li .dot')"), True)
+    page.key("ArrowUp")
+    same(page.see("document.activeElement === document.querySelector('#code-lines .next .dot')"), True)
     # The same place by the machine's list, and another one.
     page.press("#code-lines .next .dot")
     page.wait("document.querySelectorAll('.number.break').length === 0")
@@ -195,6 +210,7 @@ def a_program_without_end_is_stopped(given):
     alone(page, LOOP)
     page.press("#run")
     page.wait(f"{STATE} === 'LIMIT AFTER 1000000 STEPS'", 60)
+    same(page.text("#machine-place"), "F8 goes on")
     page.press("#options")
     page.press("#option-steps")
     page.key("a", CONTROL)
@@ -214,7 +230,7 @@ def a_program_without_end_is_stopped(given):
     same(page.see("document.querySelector('#panel-text').hidden"), False)
     page.press("#tab-run")
     check(time.monotonic() - begun < 2, "the page answers while a program runs")
-    page.press("#stop")
+    page.key("F8", SHIFT)
     page.wait(f"{STATE}.startsWith('STOPPED AFTER ')")
     steps = page.see(STATE)
     time.sleep(0.3)

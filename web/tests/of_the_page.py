@@ -24,9 +24,9 @@ def the_editor_has_the_usual_keys(given):
     page.key("Enter")
     same(page.text("#find-count"), "2 of 2")
     page.wait("document.querySelector('.found')?.getBoundingClientRect().width > 10")
-    same(page.see("""(() => { const mark = document.querySelector('.found').getBoundingClientRect(), range = document.createRange();
+    page.wait("""(() => { const mark = document.querySelector('.found').getBoundingClientRect(), range = document.createRange();
         const place = [...document.querySelectorAll('#editor-layer .is-register')].at(-1); range.selectNodeContents(place);
-        const box = range.getBoundingClientRect(); return Math.abs(mark.left - box.left) < 1 && Math.abs(mark.width - box.width) < 1; })()"""), True)
+        const box = range.getBoundingClientRect(); return Math.abs(mark.left - box.left) < 1 && Math.abs(mark.width - box.width) < 1; })()""")
     page.key("Escape")
     same(selected(page), "R0")
     page.wait("document.querySelector('#editor-layer .is-instruction')")
@@ -35,6 +35,18 @@ def the_editor_has_the_usual_keys(given):
     page.key("Escape")
     page.key("Tab")
     check(not page.see("document.activeElement.classList.contains('source')"), "Tab leaves after Escape")
+    # Who comes back by the keyboard is told how to leave, and sees the caret.
+    source(page, "\tNOP\n" * 200)
+    page.see("document.querySelector('#editor .source:not([hidden])').scrollTop = 0")
+    same(page.see("document.querySelector('#editor-hint').hidden"), True)
+    page.key("Escape")
+    page.key("Tab")
+    page.key("Tab", SHIFT)
+    page.wait("document.activeElement.classList.contains('source') && document.activeElement.scrollTop > 3000")
+    same(page.text("#editor-hint"), "Esc, then Tab leaves the editor")
+    same(page.see("document.querySelector('#editor-hint').hidden"), False)
+    page.type("N")
+    same(page.see("document.querySelector('#editor-hint').hidden"), True)
 
 
 @test
