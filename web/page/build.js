@@ -3,7 +3,7 @@
 import { OBJECT, TAPE, stem } from './files.js';
 import { Places, readListing, readLoadMap } from './listing.js';
 import { lineCount, textOf, utf8 } from './text.js';
-import { faultWords, flagWords, linkWords } from './words.js';
+import { adviceFor, faultWords, flagWords, linkWords } from './words.js';
 
 // A source before all others that lists the lines of expansions too. Listings with them are for the machine's view alone.
 const LISTED_ALL = '\u0001LIST.MAC';
@@ -138,8 +138,9 @@ function messageOf(line, module) {
   const flagged = /^([A-Z]+) (\d+):(?: (.*))?$/.exec(line);
   if (flagged) {
     const place = placeOf(module, Number(flagged[2]));
-    const text = (flagged[3] ?? '').trim();
-    return { isError: true, ...place, flags: flagged[1], words: flagWords(flagged[1]), text: isExpanded(module, place, text) ? `here as ${text}` : text };
+    const line = flagged[3] ?? '';
+    const text = isExpanded(module, place, line.trim()) ? `here as ${line.trim()}` : line;
+    return { isError: true, ...place, flags: flagWords(flagged[1]), advice: adviceFor(line), text };
   }
   const counted = /^ERRORS DETECTED: (\d+)$/.exec(line);
   if (counted) return { text: `${module.file.name}: ${line}`, isCount: true };

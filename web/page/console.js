@@ -133,17 +133,19 @@ export class Console {
     return this.machine.atEnd ? 'The program has stopped: nothing reads what is typed.' : '';
   }
 
-  /** Input for the program. */
+  /** Input for the program. Returns whether it was taken. */
   type(bytes) {
     const fault = this.whyNot();
     if (fault) {
       this.events.refused(fault);
-      return;
+      return false;
     }
+    this.events.took();
     this.host.scrollTop = this.host.scrollHeight;
     this.machine.type(bytes);
     this.update();
     this.events.typed();
+    return true;
   }
 
   ended() {
@@ -170,8 +172,8 @@ export class Console {
   sent(event) {
     event.preventDefault();
     const field = byId('line-text');
-    this.type(utf8(field.value + '\n'));
-    field.value = '';
+    // A line that came too early stays.
+    if (this.type(utf8(field.value + '\n'))) field.value = '';
   }
 
   async picked(event) {

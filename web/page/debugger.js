@@ -257,6 +257,7 @@ export class Debugger {
       this.page.notify(`“${text}” is neither an octal address nor a name of this program.`);
       return;
     }
+    this.page.noticeIsOver();
     this.memoryAt = text.trim() || null;
     this.shift = 0;
     this.drawMemory();
@@ -345,14 +346,16 @@ export class Debugger {
     });
   }
 
-  asked(event) {
+  async asked(event) {
     event.preventDefault();
     const text = byId('step-number').value.trim();
     if (!/^\d{1,10}$/.test(text)) {
       this.page.notify('The number of a step is decimal.');
       return;
     }
-    this.page.goTo(Number(text));
+    await this.page.goTo(Number(text));
+    // A number past the end has led to the end.
+    byId('step-number').value = String(this.machine?.steps ?? 0);
   }
 }
 

@@ -263,10 +263,14 @@ export class Machine {
   async goTo(steps, progress = () => {}) {
     const task = this.begin();
     this.restore(Math.max(0, steps));
-    let why = '';
+    // A stop is the end, unless steps were made past it before.
+    let why = this.atEnd && this.steps >= this.furthest ? this.stop : '';
     while (this.steps < steps && !why && task === this.task) {
       const begun = performance.now();
+      const isPassed = this.furthest;
+      const before = this.steps;
       why = this.advance(Math.min(this.slice, steps - this.steps));
+      if (this.steps > before && this.steps < isPassed && why !== 'asks') why = '';
       this.tune(performance.now() - begun, this.steps >= steps);
       this.keep();
       progress();

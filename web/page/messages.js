@@ -19,13 +19,19 @@ export function showMessages(messages, goTo) {
 
 function item(message, goTo) {
   const kind = message.isError ? 'error' : 'note';
-  const flags = message.flags ? make('b', { class: 'flags' }, message.flags) : '';
   const words = message.words ? make('span', { class: 'words' }, message.words) : '';
   const text = make(message.flags ? 'code' : 'span', { class: 'text' }, message.text);
-  const parts = message.flags ? [flags, ' ', words, ' ', text] : [text, ' ', words];
+  const parts = message.flags ? flaggedParts(message, text) : [text, ' ', words];
   if (!message.file) return make('li', { class: kind }, ...parts);
   const place = make('span', { class: 'place' }, `${message.file}:${message.line}`);
   const leads = button('', () => goTo(message.file, message.line), { class: 'leads' });
   leads.append(place, ' ', ...parts);
   return make('li', { class: kind }, leads);
+}
+
+// A line for each flag, the line of the source, and what to do if that is known.
+function flaggedParts(message, text) {
+  const flags = message.flags.map(([flag, words]) => make('span', { class: 'flag' }, make('b', { class: 'flags' }, flag), ' ', make('span', { class: 'words' }, words)));
+  const advice = message.advice ? [make('span', { class: 'advice' }, message.advice)] : [];
+  return [...flags, text, ...advice];
 }

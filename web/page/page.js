@@ -20,7 +20,8 @@ export class Page {
   constructor(engine, options, notify) {
     this.engine = engine;
     this.options = options;
-    this.notify = notify;
+    this.notice = notify;
+    this.noticed = '';
     this.files = new Files();
     this.built = null;
     this.isStale = true;
@@ -32,10 +33,22 @@ export class Page {
     this.marks.toggle = (file, line) => this.toggleLine(file, line);
     this.editor = new Editor(this.files, this.marks);
     this.editor.onEdit = (file, line, by) => this.edited(file, line, by);
-    this.console = new Console({ typed: () => this.typed(), refused: text => notify(text) });
+    this.console = new Console({ typed: () => this.typed(), refused: text => this.notify(text), took: () => this.noticeIsOver() });
     this.debugger = new Debugger(engine, this);
     this.outputs = new Outputs(engine, this);
     this.stored = () => {};
+  }
+
+  /** Tells something that counts until something else is done. */
+  notify(text) {
+    this.noticed = text;
+    this.notice(text);
+  }
+
+  // What was told last doesn't count any more. Notices of others stay.
+  noticeIsOver() {
+    if (this.noticed && byId('notice-text').textContent === this.noticed) this.notice('');
+    this.noticed = '';
   }
 
   // --- what the parts of the page ask for ---
@@ -88,6 +101,7 @@ export class Page {
     const found = isKnown ? places.nextStored(file, line, line + 50) : line;
     const at = found ?? line;
     const isSet = this.marks.turn(file, at);
+    this.noticeIsOver();
     if (isSet && isKnown && found === null) this.notify(`Line ${line} of ${file} stores no instruction: nothing stops there.`);
     say(isSet ? `Breakpoint at line ${at}` : `No breakpoint at line ${at}`);
     this.debugger.draw();
@@ -104,6 +118,7 @@ export class Page {
 
   /** Assembles and links, and puts the tape into a new machine. */
   build() {
+    this.noticeIsOver();
     this.machine?.halt();
     this.machine = null;
     try {
@@ -143,6 +158,7 @@ export class Page {
 
   // Puts the tape into a new machine.
   load() {
+    this.noticeIsOver();
     this.machine?.halt();
     try {
       this.machine = new Machine(this.engine, this.built.tape, this.options);
@@ -228,6 +244,7 @@ export class Page {
   async doing(task, isRun = false) {
     const { machine } = this;
     if (machine.isRunning) return;
+    this.noticeIsOver();
     this.marks.next = null;
     this.begun = { time: performance.now(), steps: machine.steps, focus: isRun ? document.activeElement : null };
     const promise = task(machine);
@@ -246,6 +263,7 @@ export class Page {
   /** A task of several runs, which says something at its end. */
   async alone(task) {
     if (!this.machine) return;
+    this.noticeIsOver();
     this.machine.halt();
     byId('machine-state').textContent = 'Looks back …';
     // The words are seen before the work begins.

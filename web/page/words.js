@@ -39,9 +39,17 @@ const FAULTS = [
   [/USAGE 5 /, 'An address is at most 157776.'],
 ];
 
-/** The meaning of a line's flags. */
+/** The meaning of a line's flags, each with its letter. */
 export function flagWords(flags) {
-  return [...flags].map(flag => FLAGS[flag] ?? '').filter(words => words).join('; ');
+  return [...flags].map(flag => [flag, FLAGS[flag] ?? '']);
+}
+
+/** What to do about a directive that this assembler lacks, or nothing. */
+export function adviceFor(text) {
+  if (/^[^;"]*\.MCALL\b/i.test(text)) return 'There is no .MCALL: put the macros into a file of their own, and give it the role “before each module” in Files. '
+    + 'Examples has such a program, with calls of RT-11.';
+  if (/^[^;"]*\.INCLUDE\b/i.test(text)) return 'There is no .INCLUDE: give the file the role “before each module” in Files. Examples has a program with shared definitions.';
+  return '';
 }
 
 /** What a fault line means, or nothing. */

@@ -29,9 +29,9 @@ def a_message_leads_to_its_line(given):
     page.key("F9")
     page.wait("document.querySelectorAll('#messages-list .error').length > 1")
     messages = page.text("#messages-list")
-    for words in ("PRIMES.MAC:36", "AQ", "here as MOV\t#EOL R0", "is missing, or left over", "branch out of reach"):
+    for words in ("PRIMES.MAC:36", "A a value, an", "Q something", "here as MOV\t#EOL R0", "is missing, or left over", "branch out of reach"):
         check(words in messages, f"{words} isn't in {messages}")
-    same(page.see("[...document.querySelectorAll('#messages-list code')].at(-1).textContent"), "BR\tNOWHERE")
+    same(page.see("[...document.querySelectorAll('#messages-list code')].at(-1).textContent"), "\tBR\tNOWHERE")
     page.see("document.querySelector('#editor .source:not([hidden])').scrollTop = 0")
     page.press_text("#messages-list .leads", "BR\tNOWHERE")
     check("NOWHERE" in selected(page), selected(page))
@@ -41,6 +41,31 @@ def a_message_leads_to_its_line(given):
     page.press("#tab-tape")
     same(page.text("#panel-note"), "The last build had mistakes: see the messages.")
     same(page.see("document.querySelector('#which').hidden"), True)
+
+
+@test
+def a_message_says_what_to_do(given):
+    page = given.open()
+    alone(page, "\t.MCALL\t.PRINT\n\t.INCLUDE\t\"A.MAC\"\n\t.END\n")
+    page.key("F9")
+    page.wait("document.querySelectorAll('#messages-list .advice').length === 2")
+    check("role “before each module”" in page.text("#messages-list .advice"), page.text("#messages-list"))
+
+
+@test
+def a_notice_goes_with_its_reason(given):
+    page = given.open()
+    page.press("#line-text")
+    page.type("Ada\n")
+    page.wait("document.querySelector('#notice-text').textContent.startsWith('No program is loaded')")
+    # The line stays until it is taken.
+    same(page.see("document.querySelector('#line-text').value"), "Ada")
+    built(page)
+    same(page.see("document.querySelector('#notice').hidden"), True)
+    page.press("#line-text")
+    page.key("Enter")
+    shows(page, lambda text: "I have a number" in text)
+    same(page.see("document.querySelector('#line-text').value"), "")
 
 
 @test

@@ -260,9 +260,21 @@ def steps_past_a_halt_are_told_apart(given):
     alone(page, "\t.TITLE\tP\nSTART:\tINC\tR0\n\tHALT\n\tMOV\t#7,R1\n\tNOP\n\t.END\tSTART\n")
     page.key("F8")
     page.wait(f"{STATE} === 'HALT AFTER 2 STEPS'")
+    # A number past the end leads to the end.
+    page.press("#step-number")
+    page.key("a", CONTROL)
+    page.type("99\n")
+    page.wait("document.querySelector('#step-number').value === '2'")
+    same(page.see(STATE), "HALT AFTER 2 STEPS")
     page.key("F7")
     page.key("F7")
     page.wait(f"{STATE} === 'AFTER 4 STEPS'")
+    # What was made past the HALT is reached again.
+    for steps in (1, 4):
+        page.press("#step-number")
+        page.key("a", CONTROL)
+        page.type(f"{steps}\n")
+        page.wait(f"{STATE} === 'AFTER {steps} {'STEP' if steps == 1 else 'STEPS'}'")
     page.press("#tab-trace")
     same(page.text("#shown").count("\n"), 1)
     check(page.text("#panel-note").startswith("Steps 1 to 2:") and "to 4 were made past it" in page.text("#panel-note"), page.text("#panel-note"))
