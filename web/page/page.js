@@ -301,7 +301,7 @@ export class Page {
   }
 
   asking() {
-    return `WAITS FOR A KEY AFTER ${this.machine.steps} STEPS`;
+    return `WAITS FOR A KEY AFTER ${stepsOf(this.machine).toUpperCase()}`;
   }
 
   running(now) {
@@ -326,7 +326,7 @@ export class Page {
   report(why) {
     const { machine } = this;
     if (machine.stop) return machine.report();
-    const steps = `${machine.steps} ${machine.steps === 1 ? 'step' : 'steps'}`;
+    const steps = stepsOf(machine);
     if (why === 'break') return `Stopped at breakpoint ${octal(machine.pc)} after ${steps}`;
     if (why === 'stopped') return `STOPPED AFTER ${steps.toUpperCase()}`;
     return machine.steps ? `AFTER ${steps.toUpperCase()}` : '';
@@ -373,6 +373,10 @@ export class Page {
       this.editor.redraw();
     }
   }
+}
+
+function stepsOf(machine) {
+  return `${machine.steps} ${machine.steps === 1 ? 'step' : 'steps'}`;
 }
 
 /** The registers as `m11 sim` shows them at a stop. */

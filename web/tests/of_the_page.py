@@ -106,6 +106,31 @@ def a_phone_shows_one_part_at_a_time(given):
 
 
 @test
+def fingers_are_shown_no_keys(given):
+    page = given.open(size=(375, 812))
+    page.call("Emulation.setTouchEmulationEnabled", enabled=True)
+    page.reload()
+    same(page.text("#messages-list"), "Build assembles and links the files.")
+    page.press("#areas [data-area=results]")
+    same(page.text("#panel-note"), "There is none yet: Build assembles and links.")
+    page.press("#about")
+    shown = page.see("document.querySelector('#about-dialog').innerText")
+    check("F8" not in shown and "F9" not in shown and "Step over" in shown, shown)
+
+
+@test
+def what_has_changed_stays_coloured(given):
+    page = given.open(size=(375, 812))
+    page.press("#build")
+    page.press("#areas [data-area=machine]")
+    page.press("#step")
+    page.wait(f"{STATE} === 'AFTER 1 STEP'")
+    page.press("#areas [data-area=console]")
+    page.press("#areas [data-area=machine]")
+    same(page.see("[...document.querySelectorAll('.value.changed')].map(one => one.id)"), ["register-SP", "register-PC"])
+
+
+@test
 def colours_follow_the_system_and_the_switch(given):
     page = given.open(scheme="dark")
     back = "getComputedStyle(document.body).backgroundColor"
