@@ -130,7 +130,8 @@ export class Debugger {
     byId('machine-place').textContent = stop === 'HALT' ? `HALT at ${octal(place)}` : stop === 'LIMIT' ? goesOn : '';
   }
 
-  // The lines around the next instruction, or around the HALT that was reached, each with its address, its words, its instruction, and where its source is.
+  // The lines around the next instruction, or around the HALT that was reached, each with its address, its words, its instruction, and
+  // where its source is.
   drawCode() {
     const pc = this.machine.place;
     const rows = this.rowsAround(pc);
@@ -301,7 +302,8 @@ export class Debugger {
     const isAsked = address === asked;
     const classes = ['word', isChanged ? 'changed' : '', address === stack ? 'stack' : '', isAsked ? 'asked' : ''].join(' ');
     const place = `${octal(address)}${label ? ' ' + label : ''}${address === stack ? ', the top of the stack' : ''}`;
-    return make('button', { type: 'button', role: 'gridcell', class: classes, tabindex: number === this.active ? '0' : '-1', 'data-number': String(number),
+    const tabindex = number === this.active ? '0' : '-1';
+    return make('button', { type: 'button', role: 'gridcell', class: classes, tabindex, 'data-number': String(number),
       'aria-current': isAsked ? 'true' : null, title: `${place}: back to before its last change`,
       on: { click: () => this.backAt(address, number) } }, octal(value));
   }

@@ -123,7 +123,8 @@ export class Machine {
 
   /**
    * Runs until the program stops, the limit is reached, or `breaksNow` has an address to which it has come: it is asked again for each
-   * slice, since breakpoints may be set while a program waits for a key. `isThere` may refuse such a place. `progress` is told after each slice. Returns why the run ended.
+   * slice, since breakpoints may be set while a program waits for a key. `isThere` may refuse such a place. `progress` is told after
+   * each slice. Returns why the run ended.
    */
   async run(breaksNow, { isThere = () => true, progress = () => {} } = {}) {
     const task = this.begin();

@@ -31,7 +31,8 @@ function item(message, goTo) {
 
 // A line for each flag, the line of the source, and what to do if that is known.
 function flaggedParts(message, text) {
-  const flags = message.flags.map(([flag, words]) => make('span', { class: 'flag' }, make('b', { class: 'flags' }, flag), ' ', make('span', { class: 'words' }, words)));
+  const flags = message.flags.map(([flag, words]) =>
+    make('span', { class: 'flag' }, make('b', { class: 'flags' }, flag), ' ', make('span', { class: 'words' }, words)));
   const advice = message.advice ? [make('span', { class: 'advice' }, message.advice)] : [];
   return [...flags, text, ...advice];
 }

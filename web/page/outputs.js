@@ -121,8 +121,9 @@ export class Outputs {
       // The trace ends at a stop, also if steps were made past it.
       if (!lines.length) return { text: '', note: `The trace ends at a stop before step ${first}.` };
       const last = numberOf(lines.at(-1));
+      const steps = `Steps ${numberOf(lines[0])} to ${last}`;
       const more = last < machine.steps ? `. The trace ends at the stop; the steps to ${machine.steps} were made past it` : '';
-      return { text: lines.map(inColumns).join('\n'), note: `Steps ${numberOf(lines[0])} to ${last}: number, address, instruction, what it changed${more}` };
+      return { text: lines.map(inColumns).join('\n'), note: `${steps}: number, address, instruction, what it changed${more}` };
     } catch (error) {
       return { text: '', note: error.message };
     }

@@ -358,8 +358,16 @@ export class Page {
     byId('step').disabled = isRunning;
     byId('over').disabled = isRunning;
     byId('end-input').disabled = !machine || machine.isOver;
-    const words = !machine ? '' : machine.isOver ? 'the input has ended' : machine.isAsking ? 'waits for a key' : isRunning ? 'runs' : machine.stop || this.reached;
-    byId('console-state').textContent = words;
+    byId('console-state').textContent = machine ? this.consoleWords() : '';
+  }
+
+  consoleWords() {
+    const { machine } = this;
+    const stop = machine.isRunning ? '' : machine.stop || this.reached;
+    if (stop) return stop;
+    if (machine.isOver) return 'the input has ended';
+    if (machine.isAsking) return 'waits for a key';
+    return machine.isRunning ? 'runs' : '';
   }
 
   // --- edits ---

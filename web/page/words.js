@@ -39,6 +39,13 @@ const FAULTS = [
   [/USAGE 5 /, 'An address is at most 157776.'],
 ];
 
+const LACKING = [
+  [/^[^;"]*\.MCALL\b/i, 'There is no .MCALL: put the macros into a file of their own, and give it the role “before each module” in Files. '
+    + 'Examples has such a program, with calls of RT-11.'],
+  [/^[^;"]*\.INCLUDE\b/i, 'There is no .INCLUDE: give the file the role “before each module” in Files. '
+    + 'Examples has a program with shared definitions.'],
+];
+
 /** The meaning of a line's flags, each with its letter. */
 export function flagWords(flags) {
   return [...flags].map(flag => [flag, FLAGS[flag] ?? '']);
@@ -46,10 +53,7 @@ export function flagWords(flags) {
 
 /** What to do about a directive that this assembler lacks, or nothing. */
 export function adviceFor(text) {
-  if (/^[^;"]*\.MCALL\b/i.test(text)) return 'There is no .MCALL: put the macros into a file of their own, and give it the role “before each module” in Files. '
-    + 'Examples has such a program, with calls of RT-11.';
-  if (/^[^;"]*\.INCLUDE\b/i.test(text)) return 'There is no .INCLUDE: give the file the role “before each module” in Files. Examples has a program with shared definitions.';
-  return '';
+  return LACKING.find(([form]) => form.test(text))?.[1] ?? '';
 }
 
 /** What a fault line means, or nothing. */
