@@ -111,7 +111,7 @@ def plays(firefox, url):
 def goes_back(firefox):
     """An example with a mistake: a line that is flagged, and the way back to the mistake."""
     firefox.press("#examples")
-    firefox.press("#examples-list li:nth-child(3) .example")
+    firefox.press("#examples-list li:nth-child(4) .example")
     firefox.wait("document.querySelector('#machine-state').textContent.startsWith('Loaded')")
     firefox.type(F8)
     firefox.wait("document.querySelector('#machine-state').textContent === 'HALT AFTER 19 STEPS'")
