@@ -1,9 +1,11 @@
 #!/usr/bin/env python3
 """Compares the program for Node with the native ones: web/tests/node.py M11.mjs FOLDER
 
-FOLDER has m11, m11-dump and m11-trace. Each makes the same calls in a folder of its own, and has to leave the same status, output, messages and files. The last line is
-`N calls are the same, M differ`."""
+FOLDER has m11, m11-dump and m11-trace. Each makes the same calls in a folder of its own, and has to leave the same status, output, messages and files. Calls that
+would write over what they read are compared with the scripts at the top, which refuse them. Where a standard stream or an output fails, the status
+has to be the same. The last line is `N calls are the same, M differ`."""
 import os
+import shlex
 import shutil
 import subprocess
 import sys
@@ -47,6 +49,18 @@ CALLS = [
     ("trace EMPTY", ""), ("trace NOTHERE.TAP", ""), ("trace -f 100000 -w 1000 -n 200000 N.TAP", ""),
     ("asm -o U.OBJ Ünïcode.MAC", ""), (["asm", "-o", "A FILE.OBJ", "NAME WITH SPACE.MAC"], ""), ("link -o T.TAP P.LST", ""), ("link -o T.TAP EMPTY", ""),
 ]
+# Calls that the scripts refuse, or only seem to have to.
+OVER_INPUTS = [
+    "asm -o PRIMES.MAC PRIMES.MAC", "asm -oPRIMES.MAC PRIMES.MAC", "asm -o ./PRIMES.MAC ECHO.MAC PRIMES.MAC", "asm -o Q.OBJ --listing=PRIMES.MAC -- PRIMES.MAC",
+    "asm -o Q.OBJ -l Q.OBJ PRIMES.MAC", "asm -o Q.OBJ -l ./Q.OBJ PRIMES.MAC", "asm -o P.OBJ -l P.OBJ PRIMES.MAC", "asm -o /dev/null -l /dev/null PRIMES.MAC",
+    "link -o P.OBJ P.OBJ", "link -o Q.TAP -m P.OBJ P.OBJ", "link -m Q.TAP -o Q.TAP P.OBJ", "trace -o P.TAP P.TAP", "trace -n 5 -y P.LST -o P.LST P.TAP",
+    "trace -n 5 -t -y P.LST -oP.LST P.TAP", "trace -n 5 -ty P.LST -o T3.OUT P.TAP", "trace -n 5 -o P.MAP P.TAP", "asm -o PRIMES.MAC PRIMES.MAC --help",
+]
+# Calls of which a stream or an output fails, in the words of a shell.
+FAILING = [
+    "sim P.TAP </", "sim E.TAP </", "trace E.TAP </", "dump P.OBJ >/dev/full", "sim P.TAP 2>/dev/full", "asm -o Q.OBJ PRIMES.MAC 2>/dev/full",
+    "trace -n 5 P.TAP 2>/dev/full", "asm -o /dev/full PRIMES.MAC", "sim P.TAP >/dev/full",
+]
 
 
 def left(folder):
@@ -71,6 +85,23 @@ def native_of(words, folder):
     return [os.path.join(folder, f"m11-{words[0]}" if is_view(words) else "m11")]
 
 
+def compare(line, native, node):
+    """Whether two results of a call differ, which is told."""
+    parts = [part for part in native if native[part] != node[part]]
+    if parts:
+        print(f"{line}: differs in {', '.join(parts)}")
+        for part in parts:
+            if part != "files":
+                print(f"  native {native[part]!r:.300}\n  node   {node[part]!r:.300}")
+    return bool(parts)
+
+
+def status(program, words, folder):
+    """The status of a call, by a shell."""
+    line = " ".join(shlex.quote(word) for word in program) + " " + words
+    return {"status": subprocess.run(["bash", "-c", line], cwd=folder, stdin=subprocess.DEVNULL, capture_output=True, timeout=120, check=False).returncode}
+
+
 def main(words):
     if len(words) != 2:
         print(__doc__.split("\n\n")[0], file=sys.stderr)
@@ -84,18 +115,21 @@ def main(words):
             for file, text in FILES.items():
                 with open(os.path.join(room, name, file), "w", encoding="utf-8") as it:
                     it.write(text)
+        native_folder, node_folder = os.path.join(room, "native"), os.path.join(room, "node")
         for line, given in CALLS:
             words = line.split() if isinstance(line, str) else line
-            native = call(native_of(words[:1], os.path.abspath(folder)), os.path.join(room, "native"), words[1:] if is_view(words) else words, given)
-            node = call(["node", module], os.path.join(room, "node"), words, given)
-            parts = [part for part in native if native[part] != node[part]]
-            if parts:
-                differ += 1
-                print(f"{' '.join(words)}: differs in {', '.join(parts)}")
-                for part in parts:
-                    if part != "files":
-                        print(f"  native {native[part]!r:.300}\n  node   {node[part]!r:.300}")
-    print(f"{len(CALLS) - differ} calls are the same, {differ} differ")
+            native = call(native_of(words[:1], os.path.abspath(folder)), native_folder, words[1:] if is_view(words) else words, given)
+            differ += compare(" ".join(words), native, call(["node", module], node_folder, words, given))
+        for line in OVER_INPUTS:
+            words = line.split()
+            native = call(native_of(words[:1], TOP), native_folder, words[1:] if is_view(words) else words, "")
+            differ += compare(line, native, call(["node", module], node_folder, words, ""))
+        for line in FAILING:
+            words = line.split(" ", 1)
+            native = status(native_of(words[:1], os.path.abspath(folder)), words[1] if is_view(words[:1]) else line, native_folder)
+            differ += compare(line, native, status(["node", module], line, node_folder))
+    count = len(CALLS) + len(OVER_INPUTS) + len(FAILING)
+    print(f"{count - differ} calls are the same, {differ} differ")
     return 1 if differ else 0
 
 
