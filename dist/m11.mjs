@@ -156,6 +156,7 @@ export class Module {
 }
 
 import fs from "node:fs";
+import path from "node:path";
 
 const SLICE = 1000000;
 
@@ -164,6 +165,76 @@ const OUTPUTS = { asm: ["o", "l", "output", "listing"], link: ["o", "m", "output
 
 // Of each view its program's name, and the module's call for it.
 const VIEWS = { dump: ["m11-dump", "m11_dump"], trace: ["m11-trace", "m11_trace"] };
+
+// What the files that a command writes are called, by its options.
+const ROLES = {
+    asm: { "-o": "object", "--output": "object", "-l": "listing", "--listing": "listing" },
+    link: { "-o": "tape", "--output": "tape", "-m": "map", "--map": "map" },
+    trace: { "-o": "lines", "--output": "lines" },
+};
+
+// The options without a value, which may stand before another one in a word.
+const FLAGS = { trace: ["-t", "--text"] };
+
+// A call that is refused before anything runs, with a sentence and status 2.
+class Overwrites extends Error {}
+
+// Each option of a call with its value, and an empty option for each other word, as the programs read them. Nothing comes after a question for help.
+function* optionsIn(command, words) {
+    const flags = FLAGS[command] ?? [];
+    const left = [...words];
+    for (let isPath = false; left.length > 0;) {
+        const word = left.shift();
+        const long = /^(--[^=]+)=(.*)$/s.exec(word);
+        if (isPath || !word.startsWith("-") || word === "-") yield ["", word];
+        else if (word === "--") isPath = true;
+        else if (word === "-h" || word === "--help") return;
+        else if (long) yield [long[1], long[2]];
+        else if (flags.includes(word)) continue;
+        else if (word.startsWith("--") || word.length === 2) yield [word, left.shift() ?? ""];
+        else if (flags.includes(word.slice(0, 2))) left.unshift(`-${word.slice(2)}`);
+        else yield [word.slice(0, 2), word.slice(2).replace(/^=/, "")];
+    }
+}
+
+function kindOf(name) {
+    try {
+        return fs.statSync(name);
+    } catch {
+        return null;
+    }
+}
+
+// Whether two paths lead to one file, or will, when one makes it. Devices and pipes may be named twice.
+function isOneFile(one, other) {
+    const [first, second] = [kindOf(one), kindOf(other)];
+    if (first || second) return Boolean(first?.isFile() && second && first.dev === second.dev && first.ino === second.ino);
+    const folders = [one, other].map((name) => kindOf(path.dirname(name)));
+    return path.basename(one) === path.basename(other) && Boolean(folders[0] && folders[1]) && folders[0].dev === folders[1].dev
+        && folders[0].ino === folders[1].ino;
+}
+
+// Refuses a call whose output would be written over an input or over its other output, as the scripts of the native programs do.
+function refuseOverwriting(command, words) {
+    const roles = ROLES[command];
+    if (!roles) return;
+    const given = new Map();
+    const inputs = [];
+    for (const [option, value] of optionsIn(command, words)) {
+        if (Object.hasOwn(roles, option)) given.set(roles[option], value);
+        else if (option === "" || (command === "trace" && (option === "-y" || option === "--symbols"))) inputs.push(value);
+    }
+    const outputs = [...new Set(Object.values(roles))].filter((role) => given.has(role)).map((role) => [role, given.get(role)]);
+    for (const input of inputs.filter((name) => kindOf(name)?.isFile())) {
+        for (const [role, output] of outputs) {
+            if (!isOneFile(output, input)) continue;
+            if (command === "trace") throw new Overwrites(`m11-trace: the lines of the steps would be written over ${input}`);
+            throw new Overwrites(`m11: the ${role} ${output} would be written over the ${command === "asm" ? "source" : "object"} ${input}`);
+        }
+    }
+    const [[role, output] = [], [otherRole, other] = []] = outputs;
+    if (otherRole && isOneFile(output, other)) throw new Overwrites(`m11: the ${role} ${output} and the ${otherRole} ${other} would be one file`);
+}
 
 // The words that may name files to read: each word, and what is joined to an option; but no value of an option for a file to write.
 function namesIn(command, words) {
@@ -214,22 +285,22 @@ function write(stream, bytes) {
 }
 
 // Creates the files that a command made, in order, and then fills them. Where one can't be created, those before it stay empty, as the
-// native program leaves them. Returns the first path that can't be created or written, if there is one.
+// native program leaves them. Returns what to report of the first one that can't be created or written, if there is one.
 function keep(made) {
     const open = [];
-    for (const [path] of made) {
+    for (const [name] of made) {
         try {
-            open.push(fs.openSync(Buffer.from(path), "w"));
+            open.push(fs.openSync(Buffer.from(name), "w"));
         } catch {
-            return path;
+            return Buffer.concat([Buffer.from("?M11 OPEN "), name, Buffer.from("\n")]);
         }
     }
-    for (const [at, [path, bytes]] of made.entries()) {
+    for (const [at, [name, bytes]] of made.entries()) {
         try {
             fs.writeFileSync(open[at], bytes);
             fs.closeSync(open[at]);
         } catch {
-            return path;
+            return Buffer.concat([Buffer.from("m11: "), name, Buffer.from(" can't be written\n")]);
         }
     }
     return null;
@@ -253,12 +324,11 @@ function view(module, [name, ...words]) {
 function finish(answer) {
     const refused = keep(answer.made);
     if (refused !== null) {
-        write(2, Buffer.concat([Buffer.from("?M11 OPEN "), refused, Buffer.from("\n")]));
+        write(2, refused);
         return 3;
     }
-    write(1, answer.printed);
-    write(2, answer.reported);
-    return answer.status;
+    const isWritten = write(1, answer.printed);
+    return write(2, answer.reported) && isWritten ? answer.status : Math.max(answer.status, 3);
 }
 
 // What `sim` is asked for, in words that the module has found to be right.
@@ -278,6 +348,9 @@ function runIn(words) {
     return { limit: Number(asked.n), start: asked.s === null ? null : parseInt(asked.s, 8), words: Number(asked.k), tape: asked.tape };
 }
 
+// Standard input fails.
+class Unread extends Error {}
+
 // The next bytes of standard input, of which there are at least one; none at its end.
 function read() {
     const bytes = Buffer.alloc(65536);
@@ -286,7 +359,7 @@ function read() {
             return bytes.subarray(0, fs.readSync(0, bytes));
         } catch (error) {
             if (error.code === "EOF") return bytes.subarray(0, 0);
-            if (error.code !== "EAGAIN") throw error;
+            if (error.code !== "EAGAIN") throw new Unread(`m11: standard input can't be read: ${error.code}`);
             Atomics.wait(new Int32Array(new SharedArrayBuffer(4)), 0, 0, 5);
         }
     }
@@ -362,20 +435,21 @@ function go(module, first, limit) {
 }
 
 function ended(stop, name, steps, state) {
-    write(2, messages(name, steps, state));
-    return STATUS[stop];
+    return write(2, messages(name, steps, state)) ? STATUS[stop] : 3;
 }
 
 async function main(coded) {
     const words = process.argv.slice(2);
     const module = await Module.from(Buffer.from(coded, "base64"));
     try {
+        refuseOverwriting(words[0], words.slice(1));
         if (Object.hasOwn(VIEWS, words[0] ?? "")) process.exitCode = view(module, words);
         else process.exitCode = words[0] === "sim" ? simulate(module, words) : whole(module, words);
     } catch (error) {
-        if (!(error instanceof Refused)) throw error;
-        write(2, Buffer.from(`m11: ${error.message}\n`));
-        process.exitCode = 5;
+        const status = error instanceof Refused ? 5 : error instanceof Unread ? 3 : error instanceof Overwrites ? 2 : null;
+        if (status === null) throw error;
+        write(2, Buffer.from(status === 5 ? `m11: ${error.message}\n` : `${error.message}\n`));
+        process.exitCode = status;
     }
 }
 
