@@ -154,7 +154,7 @@ class Project:
 
     @functools.lru_cache(None)
     def type_of_code(self, path):
-        """The enum or struct of the code that a path `Rattle.CRATE.specs.declared.MODULE.NAME` names."""
+        """The enum, struct or trait of the code that a path `Rattle.CRATE.specs.declared.MODULE.NAME` names."""
         parts = path.split(".")
         name, source = parts[-1], os.path.join(self.root, "crates", parts[1], "src")
         places = [os.path.join(source, *parts[4:end]) + ".rt" for end in range(len(parts) - 1, 4, -1)]
@@ -183,9 +183,9 @@ def text_of(path):
 
 
 def type_in(path, name):
-    """The enum or struct with this name in a file of the code, if it is there."""
+    """The enum, struct or trait with this name in a file of the code, if it is there."""
     text = text_of(path)
-    match = re.search(rf"^[ \t]*(?:pub(?:\([a-z]+\))? )?(enum|struct) {name}\b[^{{;(]*", text, re.M)
+    match = re.search(rf"^[ \t]*(?:pub(?:\([a-z]+\))? )?(enum|struct|trait) {name}\b[^{{;(]*", text, re.M)
     if match is None:
         return None
     end = end_of(text, match.end()) if text[match.end()] in "{(" else match.end() + 1

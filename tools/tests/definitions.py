@@ -258,6 +258,7 @@ ANSWERS = (
     (("show", "instruction_of", "0o012701"), 0, "(Double Mov Word { mode = Autoincrement; register = Pc } { mode = Register; register = R1 })\n"),
     (("show", "attributes_text", "0o144"), 0, 'codes "RW,I,GBL,REL,OVR"\n'), (("list", "offset_after"), 0, "1 definition\n"),
     (("statement", "--counts", "has_bits"), 0, "has_bits: 1 definitions in 1 files"), (("statement", "has_bits"), 0, "==== crates/m11_obj/specs/Gsd.antt"),
+    (("statement", "m11_cli.Driver.Obeys"), 0, "pub trait Sink {"),
     (("show", "IsHeld", "(Branch Br 127)"), 0, "true\n"), (("show", "IsHeld", "(Branch Br 128)"), 0, "false\n"),
     (("show", "AsmRuns", *"12345"), 2, "has a quantifier"),
     (("show", "register_number", "Pc"), 0, "7\n"), (("show", "nowhere"), 2, "run: no definition has the name `nowhere`"),
